@@ -1,0 +1,3 @@
+-- What several proofs of blake2s cite.
+pub mod Halves
+pub mod Laws

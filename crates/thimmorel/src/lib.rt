@@ -1,0 +1,14 @@
+// The C interface: what firmware links. `include/thimmorel.h` declares and documents each call.
+//
+// An exported function is thin. It calls the proved library and carries the same promise.
+ghost use mathlib.Core.Path.{_≡_};
+ghost use Rattle.blake2s.specs.Rfc7693.{blake2sOf};
+
+// The BLAKE2s digest of the bytes.
+#[no_mangle]
+pub extern "C" fn thimmorel_digest(bytes: &[u8], digest: &mut [u8; 32])
+    ensures { λ r. ⌜ now (digest .exit) ≡ blake2sOf (now (bytes .entry)) ⌝ }
+{
+    let d = blake2s::blake2s(bytes);
+    *digest = d;
+}

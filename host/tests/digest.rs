@@ -1,0 +1,134 @@
+//! The archive's digest against an independent model and Python's hashlib: at every short length,
+//! at unaligned places, and at lengths up to 2 MiB. Then its use of the memory that it is lent,
+//! and the header from C and C++.
+
+mod common;
+#[path = "../src/ffi.rs"]
+mod ffi;
+mod model;
+
+use common::random::Random;
+use common::{c, hashlib, hex};
+use model::blake2s::{blake2s, blake2s_keyed};
+
+const EMPTY: &str = "69217a3079908094e11121d042354a7c1f55b6482ca1a51e1b250dfd1ed0eef9";
+const ABC: &str = "508c5e8c327c14e2e1a72ba34eeb452f37458b209ed63a294d999b4c86675982";
+const SELF_TEST: &str = "6a411f08ce25adcdfb02aba641451cec53c598b24f4fc787fbdc88797f4c1dfe";
+
+fn assert_agreement(messages: &[&[u8]]) {
+    for (message, by_hashlib) in messages.iter().zip(hashlib::digests(messages)) {
+        let digest = thimmorel::digest(message);
+        let length = message.len();
+        assert_eq!(digest, blake2s(message), "the model, at {length} bytes");
+        assert_eq!(digest, by_hashlib, "hashlib, at {length} bytes");
+    }
+}
+
+fn assert_agreement_at(lengths: impl Iterator<Item = usize>, random: &mut Random) {
+    let messages: Vec<Vec<u8>> = lengths.map(|length| random.bytes(length)).collect();
+    let messages: Vec<&[u8]> = messages.iter().map(Vec::as_slice).collect();
+    assert_agreement(&messages);
+}
+
+#[test]
+fn known_digests() {
+    assert_eq!(thimmorel::digest(b"abc"), hex::digest(ABC));
+    assert_eq!(thimmorel::digest(b""), hex::digest(EMPTY));
+}
+
+/// The bytes that RFC 7693, appendix E, makes for a length.
+fn sequence(length: usize) -> Vec<u8> {
+    let mut a = 0xdead4bad_u32.wrapping_mul(length as u32);
+    let mut b = 1_u32;
+    let next = || {
+        let sum = a.wrapping_add(b);
+        (a, b) = (b, sum);
+        (sum >> 24) as u8
+    };
+    std::iter::repeat_with(next).take(length).collect()
+}
+
+/// The inner digests have keys and other sizes, so the model makes them. The outer one is tried
+/// on the model and on the archive.
+#[test]
+fn self_test_of_appendix_e() {
+    let mut digests = Vec::new();
+    for size in [16, 20, 28, 32] {
+        for length in [0, 3, 64, 65, 255, 1024] {
+            digests.extend(blake2s_keyed(size, &[], &sequence(length)));
+            digests.extend(blake2s_keyed(size, &sequence(size), &sequence(length)));
+        }
+    }
+    assert_eq!(blake2s(&digests), hex::digest(SELF_TEST));
+    assert_eq!(thimmorel::digest(&digests), hex::digest(SELF_TEST));
+}
+
+#[test]
+fn every_length_up_to_1100() {
+    assert_agreement_at(0..=1100, &mut Random::new(1));
+}
+
+/// The bytes around each message are random too, so that a digest of a byte too many is seen.
+#[test]
+fn unaligned_places() {
+    let buffer = Random::new(2).bytes(512);
+    let aligned = buffer.as_ptr().align_offset(16);
+    let mut messages = Vec::new();
+    for offset in 1..16 {
+        for length in 0..=200 {
+            messages.push(&buffer[aligned + offset..][..length]);
+        }
+    }
+    assert_agreement(&messages);
+}
+
+#[test]
+fn lengths_up_to_two_mebibytes() {
+    const LIMIT: usize = 2_097_152;
+    let mut random = Random::new(3);
+    let mut lengths = vec![LIMIT, LIMIT - 1, 1_048_577];
+    lengths.extend((3..40).map(|_| random.up_to(LIMIT)));
+    assert_agreement_at(lengths.into_iter(), &mut random);
+}
+
+#[test]
+fn no_bytes_with_any_pointer() {
+    let valid = [1_u8; 4];
+    let dangling = std::ptr::NonNull::<u8>::dangling().as_ptr().cast_const();
+    for bytes in [std::ptr::null(), dangling, valid.as_ptr()] {
+        let mut digest = [0; 32];
+        unsafe { ffi::thimmorel_digest(bytes, 0, &mut digest) };
+        assert_eq!(digest, hex::digest(EMPTY), "at {bytes:?}");
+    }
+}
+
+#[test]
+fn only_the_digest_is_written() {
+    for length in [0, 1, 63, 64, 65, 1024] {
+        for at in 32..48 {
+            assert_writes_at(at, Random::new(4).bytes(length));
+        }
+    }
+}
+
+fn assert_writes_at(at: usize, mut message: Vec<u8>) {
+    const GUARD: u8 = 0xa5;
+    let mut buffer = [GUARD; 112];
+    let copy = message.clone();
+    unsafe {
+        let digest = buffer.as_mut_ptr().add(at).cast();
+        ffi::thimmorel_digest(message.as_mut_ptr(), message.len(), digest);
+    }
+    let (before, digest, after) = (&buffer[..at], &buffer[at..at + 32], &buffer[at + 32..]);
+    assert_eq!(digest, blake2s(&copy));
+    assert!(before.iter().chain(after).all(|byte| *byte == GUARD));
+    assert_eq!(message, copy);
+}
+
+#[test]
+fn from_c_and_cpp() {
+    c::run(&c::build("digest", "gcc", &["-std=c99"]));
+    if c::is_there("g++") {
+        c::run(&c::build("digest", "g++", &["-x", "c++"]));
+    }
+}

@@ -1,0 +1,180 @@
+/*
+ * Times thimmorel_digest and other implementations of BLAKE2s in turn, on the same bytes.
+ * Prints, for each size, the time of the other divided by ours: 1.07 says that ours is 7 percent
+ * faster. Only ratios are printed, since a time alone says nothing about another machine.
+ */
+
+#define _POSIX_C_SOURCE 200809L
+
+#include "reference.h"
+
+#include <blake2.h>
+#include <openssl/evp.h>
+#include <stdio.h>
+#include <stdlib.h>
+#include <string.h>
+#include <thimmorel.h>
+#include <time.h>
+
+enum { LARGEST = 2097152 };
+
+static const size_t sizes[] = { 0, 1, 64, 65, 512, 1024, LARGEST };
+
+enum { SIZES = sizeof sizes / sizeof sizes[0] };
+
+/* A batch is so long that the clock's own cost does not count. Each size is visited in several
+   passes, so that a disturbance of some seconds does not spoil one size alone. */
+static const double batch_seconds = 0.001;
+static const double visit_seconds = 0.4;
+enum { PASSES = 10 };
+
+typedef void digest_function(const uint8_t *bytes, size_t length, uint8_t digest[32]);
+
+struct implementation {
+	const char *name;
+	digest_function *digest;
+};
+
+static uint8_t message[LARGEST];
+
+static void fail(const char *what)
+{
+	fprintf(stderr, "bench: %s\n", what);
+	exit(EXIT_FAILURE);
+}
+
+/* OpenSSL's algorithm is fetched once and its context is used again, as its manual advises. */
+static EVP_MD *openssl_algorithm;
+static EVP_MD_CTX *openssl_context;
+
+static void openssl_begin(void)
+{
+	openssl_algorithm = EVP_MD_fetch(NULL, "BLAKE2S-256", NULL);
+	openssl_context = EVP_MD_CTX_new();
+	if (openssl_algorithm == NULL || openssl_context == NULL)
+		fail("OpenSSL has no BLAKE2s");
+}
+
+static void openssl_end(void)
+{
+	EVP_MD_CTX_free(openssl_context);
+	EVP_MD_free(openssl_algorithm);
+}
+
+static void digest_openssl(const uint8_t *bytes, size_t length, uint8_t digest[32])
+{
+	if (!EVP_DigestInit_ex2(openssl_context, openssl_algorithm, NULL)
+	    || !EVP_DigestUpdate(openssl_context, bytes, length)
+	    || !EVP_DigestFinal_ex(openssl_context, digest, NULL))
+		fail("OpenSSL failed");
+}
+
+static void digest_libb2(const uint8_t *bytes, size_t length, uint8_t digest[32])
+{
+	if (blake2s(digest, bytes, NULL, 32, length, 0) != 0)
+		fail("libb2 failed");
+}
+
+/* Ours is the first. */
+static const struct implementation implementations[] = {
+	{ "Thimmorel", thimmorel_digest },
+	{ "OpenSSL", digest_openssl },
+	{ "libb2", digest_libb2 },
+	{ "gcc -O3", reference_gcc },
+#ifdef WITH_CLANG
+	{ "clang -O3", reference_clang },
+#endif
+};
+
+enum { COUNT = sizeof implementations / sizeof implementations[0] };
+
+static void expect_agreement(size_t size)
+{
+	uint8_t ours[32], theirs[32];
+	implementations[0].digest(message, size, ours);
+	for (int i = 1; i < COUNT; i++) {
+		implementations[i].digest(message, size, theirs);
+		if (memcmp(ours, theirs, sizeof ours) != 0)
+			fail("the digests differ");
+	}
+}
+
+static double now(void)
+{
+	struct timespec time;
+	clock_gettime(CLOCK_MONOTONIC, &time);
+	return (double)time.tv_sec + (double)time.tv_nsec * 1e-9;
+}
+
+static double batch_time(digest_function *digest, size_t size, long calls)
+{
+	uint8_t out[32];
+	double start = now();
+	for (long i = 0; i < calls; i++)
+		digest(message, size, out);
+	return now() - start;
+}
+
+/* How many calls make a batch: doubled until ours takes long enough. */
+static long calls_in_batch(size_t size)
+{
+	long calls = 1;
+	while (batch_time(implementations[0].digest, size, calls) < batch_seconds)
+		calls *= 2;
+	return calls;
+}
+
+/* A disturbance makes a batch slower and never faster, so the best batch is the least disturbed. */
+static void run_round(size_t size, long calls, double best[COUNT])
+{
+	for (int i = 0; i < COUNT; i++) {
+		double time = batch_time(implementations[i].digest, size, calls);
+		if (best[i] == 0 || time < best[i])
+			best[i] = time;
+	}
+}
+
+static void visit(size_t size, long calls, double best[COUNT])
+{
+	double end = now() + visit_seconds;
+	while (now() < end)
+		run_round(size, calls, best);
+}
+
+static void print_head(void)
+{
+	printf("\nTheir time divided by ours: above 1, ours is faster.\n%9s", "bytes");
+	for (int i = 1; i < COUNT; i++)
+		printf("%11s", implementations[i].name);
+	printf("\n");
+}
+
+static void print_row(size_t size, const double best[COUNT])
+{
+	printf("%9zu", size);
+	for (int i = 1; i < COUNT; i++)
+		printf("%11.2f", best[i] / best[0]);
+	printf("\n");
+}
+
+int main(void)
+{
+	static double best[SIZES][COUNT];
+	long calls[SIZES];
+
+	for (size_t i = 0; i < LARGEST; i++)
+		message[i] = (uint8_t)(i * 2654435761u >> 24);
+	openssl_begin();
+	for (int s = 0; s < SIZES; s++) {
+		expect_agreement(sizes[s]);
+		calls[s] = calls_in_batch(sizes[s]);
+	}
+	for (int pass = 0; pass < PASSES; pass++)
+		for (int s = 0; s < SIZES; s++)
+			visit(sizes[s], calls[s], best[s]);
+	print_head();
+	for (int s = 0; s < SIZES; s++)
+		print_row(sizes[s], best[s]);
+	openssl_end();
+	return EXIT_SUCCESS;
+}
