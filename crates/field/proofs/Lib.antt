@@ -1,0 +1,3 @@
+-- The laws that the proofs of field, and of the crates above it, cite.
+pub mod Laws
+pub mod Rounding

@@ -1,0 +1,4 @@
+-- The laws that the proofs of header, and of the crates above it, cite.
+pub mod Rows
+pub mod Facts
+pub mod Alike

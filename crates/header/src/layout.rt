@@ -1,0 +1,122 @@
+// Where fields stand, and what stands there.
+use field::byte_at;
+use field::minus;
+use field::part;
+use field::u16_at;
+use field::u32_at;
+ghost use mathlib.Core.Path.{_≡_};
+ghost use Rattle.header.specs.Layout.{vendorLen, vendorExpiry, signersNeeded, keyCount, vtrust, stringLen, stringStart, stringEnd, pictureStart, vendorMask, firmwareMagic, firmwareLen, firmwareExpiry, codeLen, firmwareMask, codeStart, imageLen, firstRoom};
+
+pub fn vendor_len(b: &[u8]) -> u32
+    ensures { λ r. ⌜ r ≡ vendorLen (now (b .entry)) ⌝ }
+{
+    u32_at(b, 4)
+}
+
+pub fn vendor_expiry(b: &[u8]) -> u32
+    ensures { λ r. ⌜ r ≡ vendorExpiry (now (b .entry)) ⌝ }
+{
+    u32_at(b, 8)
+}
+
+pub fn signers_needed(b: &[u8]) -> u8
+    ensures { λ r. ⌜ r ≡ signersNeeded (now (b .entry)) ⌝ }
+{
+    byte_at(b, 14)
+}
+
+pub fn key_count(b: &[u8]) -> u8
+    ensures { λ r. ⌜ r ≡ keyCount (now (b .entry)) ⌝ }
+{
+    byte_at(b, 15)
+}
+
+pub fn vtrust(b: &[u8]) -> u32
+    ensures { λ r. ⌜ r ≡ vtrust (now (b .entry)) ⌝ }
+{
+    u16_at(b, 16)
+}
+
+pub fn string_len(b: &[u8]) -> u8
+    ensures { λ r. ⌜ r ≡ stringLen (now (b .entry)) ⌝ }
+{
+    byte_at(b, 32 + 32 * (key_count(b) as usize))
+}
+
+// Where the string of a vendor with n keys starts.
+pub fn string_start(n: u8) -> usize
+    ensures { λ r. ⌜ r ≡ stringStart n ⌝ }
+{
+    32 + 32 * (n as usize) + 1
+}
+
+// Where a string of s bytes ends.
+pub fn string_end(n: u8, s: u8) -> usize
+    ensures { λ r. ⌜ r ≡ stringEnd n s ⌝ }
+{
+    32 + 32 * (n as usize) + 1 + (s as usize)
+}
+
+// Where the picture area behind it starts.
+pub fn picture_start(n: u8, s: u8) -> usize
+    ensures { λ r. ⌜ r ≡ pictureStart n s ⌝ }
+{
+    (32 + 32 * (n as usize) + 1 + (s as usize) + (4 - 1)) / 4 * 4
+}
+
+pub fn vendor_mask(b: &[u8]) -> u8
+    ensures { λ r. ⌜ r ≡ vendorMask (now (b .entry)) ⌝ }
+{
+    byte_at(b, minus(vendor_len(b) as usize, 65))
+}
+
+pub fn firmware_magic(b: &[u8]) -> &[u8]
+    ensures { λ r. ⌜ now r ≡ firmwareMagic (now (b .entry)) ⌝ }
+{
+    let v = vendor_len(b) as usize;
+    part(b, v, v + 4)
+}
+
+pub fn firmware_len(b: &[u8]) -> u32
+    ensures { λ r. ⌜ r ≡ firmwareLen (now (b .entry)) ⌝ }
+{
+    u32_at(b, vendor_len(b) as usize + 4)
+}
+
+pub fn firmware_expiry(b: &[u8]) -> u32
+    ensures { λ r. ⌜ r ≡ firmwareExpiry (now (b .entry)) ⌝ }
+{
+    u32_at(b, vendor_len(b) as usize + 8)
+}
+
+pub fn code_len(b: &[u8]) -> u32
+    ensures { λ r. ⌜ r ≡ codeLen (now (b .entry)) ⌝ }
+{
+    u32_at(b, vendor_len(b) as usize + 12)
+}
+
+pub fn firmware_mask(b: &[u8]) -> u8
+    ensures { λ r. ⌜ r ≡ firmwareMask (now (b .entry)) ⌝ }
+{
+    byte_at(b, vendor_len(b) as usize + 959)
+}
+
+pub fn code_start(b: &[u8]) -> usize
+    ensures { λ r. ⌜ r ≡ codeStart (now (b .entry)) ⌝ }
+{
+    vendor_len(b) as usize + 1024
+}
+
+// Where the code ends, and with it the image.
+pub fn image_len(b: &[u8]) -> usize
+    ensures { λ r. ⌜ r ≡ imageLen (now (b .entry)) ⌝ }
+{
+    vendor_len(b) as usize + 1024 + code_len(b) as usize
+}
+
+// How many bytes of code chunk 1 has room for, behind a vendor header of v bytes.
+pub fn first_room(v: usize) -> usize
+    ensures { λ r. ⌜ r ≡ firstRoom v ⌝ }
+{
+    minus(131072 - 1024, v)
+}

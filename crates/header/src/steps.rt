@@ -1,0 +1,189 @@
+// The steps, each as a test that is true where the step fails. The definitions in
+// `specs/Steps.antt` say which step of the paper each is.
+use crate::layout::code_len;
+use crate::layout::firmware_expiry;
+use crate::layout::firmware_len;
+use crate::layout::firmware_magic;
+use crate::layout::firmware_mask;
+use crate::layout::first_room;
+use crate::layout::image_len;
+use crate::layout::key_count;
+use crate::layout::picture_start;
+use crate::layout::signers_needed;
+use crate::layout::string_end;
+use crate::layout::string_len;
+use crate::layout::vendor_expiry;
+use crate::layout::vendor_len;
+use crate::layout::vendor_mask;
+use field::all_are;
+use field::bit_at_or_above;
+use field::minus;
+use field::ones;
+use field::part;
+use field::rest;
+use field::starts_with;
+ghost use mathlib.Core.Path.{_≡_};
+ghost use Rattle.header.specs.Steps.{keysImpossible, lengthImpossible, expired, maskWrong, codeLenImpossible, vendorMagicMissing, policyImpossible, shorterThanAnyHeader, vendorLenImpossible, vendorHeaderCut, vendorKeysImpossible, stringLeavesNoRoom, vendorBytesNotZero, vendorExpired, vendorMaskWrong, firmwareHeaderCut, firmwareMagicMissing, firmwareLenWrong, firstChunkHasNoRoom, codeLenWrong, firmwareBytesNotZero, firmwareExpired, firmwareMaskWrong, codeCut, bytesFollow, tailNotErased};
+
+pub fn keys_impossible(m: u32, n: u32) -> bool
+    ensures { λ r. ⌜ r ≡ keysImpossible m n ⌝ }
+{
+    !((1 <= m) & (m <= n) & (n <= 8))
+}
+
+pub fn length_impossible(v: u32) -> bool
+    ensures { λ r. ⌜ r ≡ lengthImpossible v ⌝ }
+{
+    (v % 512 != 0) | (v < 512) | (65536 < v)
+}
+
+pub fn expired(expiry: u32, time: u32) -> bool
+    ensures { λ r. ⌜ r ≡ expired expiry time ⌝ }
+{
+    (expiry != 0) & (expiry < time)
+}
+
+pub fn mask_wrong(m: u32, n: u32, mask: u8) -> bool
+    ensures { λ r. ⌜ r ≡ maskWrong m n mask ⌝ }
+{
+    bit_at_or_above(mask, n) | (ones(mask) < m)
+}
+
+pub fn code_len_impossible(v: usize, c: usize) -> bool
+    ensures { λ r. ⌜ r ≡ codeLenImpossible v c ⌝ }
+{
+    (c == 0) | (c % 4 != 0) | (minus(2097152 - 1024, v) < c)
+}
+
+pub fn vendor_magic_missing(b: &[u8]) -> bool
+    ensures { λ r. ⌜ r ≡ vendorMagicMissing (now (b .entry)) ⌝ }
+{
+    !starts_with(b, b"TRZV")
+}
+
+pub fn policy_impossible(m: u32, n: u32) -> bool
+    ensures { λ r. ⌜ r ≡ policyImpossible m n ⌝ }
+{
+    keys_impossible(m, n)
+}
+
+pub fn shorter_than_any_header(b: &[u8]) -> bool
+    ensures { λ r. ⌜ r ≡ shorterThanAnyHeader (now (b .entry)) ⌝ }
+{
+    b.len() < 512
+}
+
+pub fn vendor_len_impossible(b: &[u8]) -> bool
+    ensures { λ r. ⌜ r ≡ vendorLenImpossible (now (b .entry)) ⌝ }
+{
+    length_impossible(vendor_len(b))
+}
+
+pub fn vendor_header_cut(b: &[u8]) -> bool
+    ensures { λ r. ⌜ r ≡ vendorHeaderCut (now (b .entry)) ⌝ }
+{
+    b.len() < vendor_len(b) as usize
+}
+
+pub fn vendor_keys_impossible(b: &[u8]) -> bool
+    ensures { λ r. ⌜ r ≡ vendorKeysImpossible (now (b .entry)) ⌝ }
+{
+    keys_impossible(signers_needed(b) as u32, key_count(b) as u32)
+}
+
+pub fn string_leaves_no_room(b: &[u8]) -> bool
+    ensures { λ r. ⌜ r ≡ stringLeavesNoRoom (now (b .entry)) ⌝ }
+{
+    (vendor_len(b) as usize) < picture_start(key_count(b), string_len(b)) + 65
+}
+
+pub fn vendor_bytes_not_zero(b: &[u8]) -> bool
+    ensures { λ r. ⌜ r ≡ vendorBytesNotZero (now (b .entry)) ⌝ }
+{
+    let n = key_count(b);
+    let s = string_len(b);
+    !(all_are(part(b, 18, 32), 0) & all_are(part(b, string_end(n, s), picture_start(n, s)), 0))
+}
+
+pub fn vendor_expired(b: &[u8], time: u32) -> bool
+    ensures { λ r. ⌜ r ≡ vendorExpired (now (b .entry)) time ⌝ }
+{
+    expired(vendor_expiry(b), time)
+}
+
+pub fn vendor_mask_wrong(b: &[u8], m: u32, n: u32) -> bool
+    ensures { λ r. ⌜ r ≡ vendorMaskWrong (now (b .entry)) m n ⌝ }
+{
+    mask_wrong(m, n, vendor_mask(b))
+}
+
+pub fn firmware_header_cut(b: &[u8]) -> bool
+    ensures { λ r. ⌜ r ≡ firmwareHeaderCut (now (b .entry)) ⌝ }
+{
+    b.len() < vendor_len(b) as usize + 1024
+}
+
+pub fn firmware_magic_missing(b: &[u8]) -> bool
+    ensures { λ r. ⌜ r ≡ firmwareMagicMissing (now (b .entry)) ⌝ }
+{
+    !starts_with(firmware_magic(b), b"TRZF")
+}
+
+pub fn firmware_len_wrong(b: &[u8]) -> bool
+    ensures { λ r. ⌜ r ≡ firmwareLenWrong (now (b .entry)) ⌝ }
+{
+    firmware_len(b) != 1024
+}
+
+pub fn first_chunk_has_no_room(b: &[u8]) -> bool
+    ensures { λ r. ⌜ r ≡ firstChunkHasNoRoom (now (b .entry)) ⌝ }
+{
+    first_room(vendor_len(b) as usize) == 0
+}
+
+pub fn code_len_wrong(b: &[u8]) -> bool
+    ensures { λ r. ⌜ r ≡ codeLenWrong (now (b .entry)) ⌝ }
+{
+    code_len_impossible(vendor_len(b) as usize, code_len(b) as usize)
+}
+
+pub fn firmware_bytes_not_zero(b: &[u8]) -> bool
+    ensures { λ r. ⌜ r ≡ firmwareBytesNotZero (now (b .entry)) ⌝ }
+{
+    let v = vendor_len(b) as usize;
+    !(all_are(part(b, v + 24, v + 32), 0) & all_are(part(b, v + 544, v + 959), 0))
+}
+
+pub fn firmware_expired(b: &[u8], time: u32) -> bool
+    ensures { λ r. ⌜ r ≡ firmwareExpired (now (b .entry)) time ⌝ }
+{
+    expired(firmware_expiry(b), time)
+}
+
+pub fn firmware_mask_wrong(b: &[u8]) -> bool
+    ensures { λ r. ⌜ r ≡ firmwareMaskWrong (now (b .entry)) ⌝ }
+{
+    mask_wrong(
+        signers_needed(b) as u32,
+        key_count(b) as u32,
+        firmware_mask(b),
+    )
+}
+
+pub fn code_cut(b: &[u8]) -> bool
+    ensures { λ r. ⌜ r ≡ codeCut (now (b .entry)) ⌝ }
+{
+    b.len() < image_len(b)
+}
+
+pub fn bytes_follow(b: &[u8]) -> bool
+    ensures { λ r. ⌜ r ≡ bytesFollow (now (b .entry)) ⌝ }
+{
+    image_len(b) < b.len()
+}
+
+pub fn tail_not_erased(b: &[u8]) -> bool
+    ensures { λ r. ⌜ r ≡ tailNotErased (now (b .entry)) ⌝ }
+{
+    !all_are(rest(b, image_len(b)), 255)
+}

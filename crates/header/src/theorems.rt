@@ -1,0 +1,7 @@
+// What is shown of the definitions, each as the promise of a function with an empty body.
+ghost use Rattle.header.specs.Theorems.{AlikeHeadersPassAlike};
+
+// Lists of bytes that agree on what the headers' steps read get the same answer of them.
+pub fn alike_headers_pass_alike()
+    ensures { λ r. ⌜ AlikeHeadersPassAlike ⌝ }
+{}
