@@ -1,0 +1,2 @@
+-- What the contract of worked_numbers cites.
+pub mod Table
