@@ -1,0 +1,147 @@
+-- What an acceptance says: each group of rows passes, the hashes are the chunks', and the image is the bytes'; and the other way round.
+-- Assumes nothing.
+use Prim.Native.Nat.{ℕ, _≤_}
+use mathlib.Core.Path.{_≡_, refl, sym, ap, _∙_}
+use mathlib.Core.List.{List}
+use mathlib.Core.Bool.{Bool, true, not}
+use native.Mathlib.Omega.{arith}
+use lib.ListN.{length, drop, length-take, length-drop}
+use borrow.Author.Tests.{ltb-false, le-ltb, not-false}
+use Rattle.field.specs.Field.{between, allAre}
+use Rattle.field.proofs.Laws.{between-end}
+use Rattle.header.specs.Layout.{vendorLen, codeLen, codeStart, imageLen, firstRoom}
+use Rattle.header.specs.Steps.{vendorMagicMissing, codeCut, bytesFollow, tailNotErased}
+use Rattle.header.specs.Table.{firstFailing, headerRows, extentRows}
+use Rattle.header.specs.declared.Refusal.{Refusal}
+use Rattle.header.specs.declared.Inputs.{Inputs}
+use Rattle.header.specs.declared.Outcome.{Outcome}
+use Rattle.header.specs.declared.Outcome.the-variants.{Pass, Refused}
+use Rattle.header.proofs.Rows.{passes-here, ends, stage-first, stage-then, stage-passes}
+use Rattle.header.proofs.Facts.{VendorShaped, FirmwareShaped, headers-pass, vendor-shaped, firmware-shaped, extent-passes}
+use Rattle.image.specs.Chunks.{hashesOf, hashTable, codeOf, hashRows}
+use Rattle.image.specs.Answer.{imageOf, answerOf}
+use Rattle.image.specs.Check.{checkRows, checkFile, checkSlot}
+use Rattle.image.specs.declared.Image.{Image}
+use Rattle.image.specs.declared.Answer.the-variants.{Accepted, Rejected}
+use Rattle.image.proofs.Hashes.{hashes-pass, hashes-right}
+
+-- ---- an answer and the outcome of the rows
+
+pub rejected : {o : Outcome} {r : Refusal} (i : Image) → o ≡ Refused r → Rejected r ≡ answerOf o i
+rejected i h = sym (rw h)
+
+pub accepted : {o : Outcome} {i j : Image} → o ≡ Pass → i ≡ j → Accepted i ≡ answerOf o j
+accepted h g = ap Accepted g ∙ sym (rw h)
+
+-- an acceptance: the outcome is Pass, and the image is the one told
+pub passed : (o : Outcome) (i j : Image) → answerOf o i ≡ Accepted j → o ≡ Pass
+passed Pass i j h = refl
+passed (Refused r) i j h = cc
+
+pub told : (o : Outcome) (i j : Image) → answerOf o i ≡ Accepted j → i ≡ j
+told Pass i j h = cc
+told (Refused r) i j h = cc
+
+-- ---- all rows pass
+
+pub record RowsPass (magicMissing tailWrong : Bool) (b : List ℕ) (given : Inputs) : Type 0 where
+  pub headers : firstFailing (headerRows magicMissing b given) ≡ Pass
+  pub extent : firstFailing (extentRows tailWrong b) ≡ Pass
+  pub hashes : firstFailing (hashRows b) ≡ Pass
+
+pub each-group-passes : {magicMissing tailWrong : Bool} {b : List ℕ} {given : Inputs} → firstFailing (checkRows magicMissing tailWrong b given) ≡ Pass → RowsPass magicMissing tailWrong b given
+unfolding checkRows
+each-group-passes {magicMissing} {tailWrong} {b} {given} h =
+    let l = stage-then (headerRows magicMissing b given) _ h in
+    record { headers = stage-first _ _ h; extent = stage-first _ _ l; hashes = stage-then (extentRows tailWrong b) _ l }
+
+pub all-groups-pass : {magicMissing tailWrong : Bool} {b : List ℕ} {given : Inputs} → RowsPass magicMissing tailWrong b given → firstFailing (checkRows magicMissing tailWrong b given) ≡ Pass
+unfolding checkRows
+all-groups-pass p = sym (stage-passes _ _ (sym (p .headers)) refl (stage-passes _ _ (sym (p .extent)) refl (sym (p .hashes))))
+
+-- ---- an accepted file, an accepted slot
+
+-- what both tell of the bytes
+pub record Sound (b : List ℕ) : Type 0 where
+  pub vendor : VendorShaped b
+  pub firmware : FirmwareShaped b
+  pub held : imageLen b ≤ length b
+  pub hashes : hashTable b ≡ hashesOf 16 (firstRoom (vendorLen b)) (codeOf b)
+
+pub sound : {magicMissing tailWrong : Bool} {b : List ℕ} {given : Inputs} → RowsPass magicMissing tailWrong b given → Sound b
+sound {magicMissing} {tailWrong} {b} {given} p =
+    let h = headers-pass magicMissing b given (p .headers) in
+    record {
+      vendor = vendor-shaped b (h .vendor);
+      firmware = firmware-shaped b (h .firmware);
+      held = extent-passes tailWrong b (p .extent) .held;
+      hashes = hashes-right b (p .hashes);
+    }
+
+-- the file check accepts exactly where all rows pass, and tells the image
+pub file-rows-pass : (b : List ℕ) (given : Inputs) (i : Image) → checkFile b given ≡ Accepted i → RowsPass (vendorMagicMissing b) (bytesFollow b) b given
+unfolding checkFile
+file-rows-pass b given i h = each-group-passes (passed _ (imageOf b) i h)
+
+pub file-told : (b : List ℕ) (given : Inputs) (i : Image) → checkFile b given ≡ Accepted i → imageOf b ≡ i
+unfolding checkFile
+file-told b given i h = told (firstFailing (checkRows (vendorMagicMissing b) (bytesFollow b) b given)) (imageOf b) i h
+
+pub file-accepted : (b : List ℕ) (given : Inputs) → RowsPass (vendorMagicMissing b) (bytesFollow b) b given → checkFile b given ≡ Accepted (imageOf b)
+unfolding checkFile
+file-accepted b given p = sym (accepted (all-groups-pass p) refl)
+
+-- the slot check likewise
+pub slot-rows-pass : (b : List ℕ) (given : Inputs) (i : Image) → checkSlot b given ≡ Accepted i → RowsPass (vendorMagicMissing b) (tailNotErased b) b given
+unfolding checkSlot
+slot-rows-pass b given i h = each-group-passes (passed _ (imageOf b) i h)
+
+pub slot-told : (b : List ℕ) (given : Inputs) (i : Image) → checkSlot b given ≡ Accepted i → imageOf b ≡ i
+unfolding checkSlot
+slot-told b given i h = told (firstFailing (checkRows (vendorMagicMissing b) (tailNotErased b) b given)) (imageOf b) i h
+
+pub slot-accepted : (b : List ℕ) (given : Inputs) → RowsPass (vendorMagicMissing b) (tailNotErased b) b given → checkSlot b given ≡ Accepted (imageOf b)
+unfolding checkSlot
+slot-accepted b given p = sym (accepted (all-groups-pass p) refl)
+
+-- ---- the extent
+
+-- a file that is as long as its image passes S21 and S22, and an accepted file is so long
+pub file-extent-passes : (b : List ℕ) → length b ≡ imageLen b → firstFailing (extentRows (bytesFollow b) b) ≡ Pass
+unfolding extentRows codeCut bytesFollow
+file-extent-passes b e =
+    sym (passes-here _ _ (le-ltb (length b) (imageLen b) (omega arith)) (passes-here _ _ (le-ltb (imageLen b) (length b) (omega arith)) ends))
+
+pub file-length : (b : List ℕ) (given : Inputs) → RowsPass (vendorMagicMissing b) (bytesFollow b) b given → length b ≡ imageLen b
+unfolding bytesFollow
+file-length b given p =
+    let e = extent-passes (bytesFollow b) b (p .extent) in
+    let l = e .held in
+    let m : length b ≤ imageLen b = ltb-false (imageLen b) (length b) (e .tail) in
+    omega arith
+
+-- a slot that holds its image, with erased bytes behind it, passes them too, and an accepted slot has such bytes
+pub slot-extent-passes : (b : List ℕ) → imageLen b ≤ length b → allAre 255 (drop (imageLen b) b) ≡ true → firstFailing (extentRows (tailNotErased b) b) ≡ Pass
+unfolding extentRows codeCut tailNotErased
+slot-extent-passes b h e = sym (passes-here _ _ (le-ltb (length b) (imageLen b) h) (passes-here _ _ (ap not e) ends))
+
+pub slot-tail-erased : (b : List ℕ) (given : Inputs) → RowsPass (vendorMagicMissing b) (tailNotErased b) b given → allAre 255 (drop (imageLen b) b) ≡ true
+unfolding tailNotErased
+slot-tail-erased b given p = not-false _ (extent-passes (tailNotErased b) b (p .extent) .tail)
+
+-- ---- a file that is accepted, by its headers, its length and its hashes
+
+pub sound-file-accepted : (b : List ℕ) (given : Inputs) → firstFailing (headerRows (vendorMagicMissing b) b given) ≡ Pass → length b ≡ imageLen b
+    → hashTable b ≡ hashesOf 16 (firstRoom (vendorLen b)) (codeOf b) → checkFile b given ≡ Accepted (imageOf b)
+sound-file-accepted b given h l e =
+    file-accepted b given (record { headers = h; extent = file-extent-passes b l; hashes = hashes-pass b e })
+
+-- ---- the code
+
+-- it has codelen bytes where the image is held whole, and is all that follows the headers of a file
+pub code-length : (b : List ℕ) → imageLen b ≤ length b → length (codeOf b) ≡ codeLen b
+unfolding between
+code-length b h = simp (length-take, length-drop) (omega arith)
+
+pub code-is-rest : (b : List ℕ) → length b ≡ imageLen b → codeOf b ≡ drop (codeStart b) b
+code-is-rest b e = between-end (codeStart b) (imageLen b) b (omega arith)

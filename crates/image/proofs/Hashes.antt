@@ -1,0 +1,293 @@
+-- Laws of specs/Chunks.antt: where chunks start, what they hold, the tables of hashes, and S23, which passes exactly where the header's table is the table of the chunks' hashes.
+-- Assumes nothing.
+use mathlib.Core.Path.{_≡_, refl, sym, ap, ap₂, _∙_}
+use mathlib.Core.Logic.{⊎-elim}
+use mathlib.Core.List.{List, [], _∷_}
+use mathlib.Core.Bool.{Bool, true, false, not}
+use Prim.Native.Nat.{ℕ, zero, suc, _+_, _-_, _*_, _≤_, _<_, min}
+use native.Mathlib.Numerals.{add-one}
+use native.Mathlib.Omega.{arith}
+use lib.ListN.{length, getD, take, set, replicate, length-append, length-take, length-drop, List·getD-append}
+use lib.Seq.{take-suc-set, ext-getD, getD-at}
+use borrow.Author.Tests.{not-false}
+use Rattle.field.specs.Field.{between, bytesAt, same}
+use Rattle.field.proofs.Laws.{split, between-past, same-self, same-equal}
+use Rattle.blake2s.specs.Rfc7693.{blake2sOf, serialised, bytesOf}
+use Rattle.header.specs.Layout.{vendorLen, firstRoom}
+use Rattle.header.specs.Table.{Row, row, firstFailing}
+use Rattle.header.specs.declared.Refusal.{Refusal}
+use Rattle.header.specs.declared.Outcome.{Outcome}
+use Rattle.header.specs.declared.Outcome.the-variants.{Pass, Refused}
+use Rattle.header.proofs.Rows.{pass-head, pass-tail}
+use Rattle.image.specs.Chunks.{roomOf, chunkStart, chunk, hashOf, hashesOf, hashesAt, hashTable, codeOf, wrongHash, chunkRow, chunkRows, hashRows}
+
+-- ---- where a chunk starts
+
+pub room-first : (first k : ℕ) → k ≡ 0 → first ≡ roomOf first k
+room-first first zero e = refl
+room-first first (suc k) e = absurd (omega arith)
+
+pub room-later : (first k : ℕ) → (k ≡ 0 → ⊥) → 131072 ≡ roomOf first k
+room-later first zero e = absurd (e refl)
+room-later first (suc k) e = refl
+
+pub room-most : (first k : ℕ) → first ≤ 131072 → roomOf first k ≤ 131072
+room-most first zero h = h
+room-most first (suc k) h = omega arith
+
+pub start-more : (first k : ℕ) → chunkStart first k + roomOf first k ≡ chunkStart first (k + 1)
+unfolding chunkStart
+start-more first k = rw (add-one k)
+
+-- the first chunk is short by as much as the others' starts are shifted
+pub start-is : (first k : ℕ) → chunkStart first (suc k) ≡ first + 131072 * k
+unfolding chunkStart
+start-is first zero = omega arith
+start-is first (suc k) = let h = start-is first k in omega arith
+
+pub start-grows : (first k : ℕ) → chunkStart first k ≤ chunkStart first (suc k)
+unfolding chunkStart
+start-grows first k = omega arith
+
+pub start-next : (first k : ℕ) → 1 ≤ first → chunkStart first k < chunkStart first (suc k)
+unfolding chunkStart
+start-next first zero h = omega arith
+start-next first (suc k) h = omega arith
+
+pub start-most : (first k : ℕ) → first ≤ 131072 → chunkStart first k ≤ 131072 * k
+unfolding chunkStart
+start-most first zero h = omega arith
+start-most first (suc k) h = let g = start-most first k h in let r = room-most first k h in omega arith
+
+-- ---- what a chunk holds
+
+pub chunk-is : (first k : ℕ) (code : List ℕ) → between (chunkStart first k) (chunkStart first (k + 1)) code ≡ chunk first k code
+unfolding chunk
+chunk-is first k code = rw (add-one k)
+
+pub chunk-length : (first k : ℕ) (code : List ℕ) → length (chunk first k code) ≡ min (chunkStart first (suc k) - chunkStart first k) (length code - chunkStart first k)
+unfolding chunk between
+chunk-length first k code = simp (length-take, length-drop)
+
+-- behind the code's end chunks hold nothing, and before it they hold something
+pub chunk-empty : (first k : ℕ) (code : List ℕ) → length code ≤ chunkStart first k → chunk first k code ≡ []
+unfolding chunk
+chunk-empty first k code h = between-past (chunkStart first k) (chunkStart first (suc k)) code h
+
+pub chunk-used : (first k : ℕ) (code : List ℕ) → 1 ≤ first → chunkStart first k < length code → 1 ≤ length (chunk first k code)
+chunk-used first k code h g = let e = chunk-length first k code in let r = start-next first k h in omega arith
+
+-- ---- hashes
+
+pub hash-empty : {d : List ℕ} (bytes : List ℕ) → length bytes ≡ 0 → d ≡ replicate 32 0 → d ≡ hashOf bytes
+unfolding hashOf
+hash-empty [] e h = h
+hash-empty (x ∷ bytes) e h = absurd (omega arith)
+
+pub hash-used : {d : List ℕ} (bytes : List ℕ) → (length bytes ≡ 0 → ⊥) → d ≡ blake2sOf bytes → d ≡ hashOf bytes
+unfolding hashOf
+hash-used [] e h = absurd (e refl)
+hash-used (x ∷ bytes) e h = h
+
+pub digest-length : (bytes : List ℕ) → length (blake2sOf bytes) ≡ 32
+unfolding blake2sOf serialised bytesOf
+digest-length bytes = refl
+
+pub hash-length : (bytes : List ℕ) → length (hashOf bytes) ≡ 32
+unfolding hashOf
+hash-length [] = refl
+hash-length (x ∷ bytes) = digest-length (x ∷ bytes)
+
+-- a table of hashes that is filled up to k gets its hash k
+pub hash-at-more : {x : List ℕ} (t : List (List ℕ)) (b : List ℕ) (at k : ℕ) → k < length t → take k t ≡ hashesAt k b at → x ≡ bytesAt 32 b (at + 32 * k)
+    → take (k + 1) (set t k x) ≡ hashesAt (k + 1) b at
+unfolding hashesAt
+hash-at-more t b at k h e f = rw (add-one, take-suc-set t k _ h, e, f)
+
+pub hash-of-more : {x : List ℕ} (t : List (List ℕ)) (first : ℕ) (code : List ℕ) (k : ℕ) → k < length t → take k t ≡ hashesOf k first code → x ≡ hashOf (chunk first k code)
+    → take (k + 1) (set t k x) ≡ hashesOf (k + 1) first code
+unfolding hashesOf
+hash-of-more t first code k h e f = rw (add-one, take-suc-set t k _ h, e, f)
+
+-- the tables have n hashes
+pub hashes-at-length : (n : ℕ) (b : List ℕ) (at : ℕ) → length (hashesAt n b at) ≡ n
+unfolding hashesAt
+hashes-at-length zero b at = refl
+hashes-at-length (suc n) b at = rw (length-append, hashes-at-length n b at) (omega arith)
+
+pub hashes-of-length : (n first : ℕ) (code : List ℕ) → length (hashesOf n first code) ≡ n
+unfolding hashesOf
+hashes-of-length zero first code = refl
+hashes-of-length (suc n) first code = rw (length-append, hashes-of-length n first code) (omega arith)
+
+-- hash k of each
+pub hash-at : (n : ℕ) (b : List ℕ) (at k : ℕ) → k < n → getD (hashesAt n b at) k [] ≡ bytesAt 32 b (at + 32 * k)
+unfolding hashesAt
+hash-at zero b at k h = absurd (omega arith)
+hash-at (suc n) b at k h =
+    let l = hashes-at-length n b at in
+    ⊎-elim
+    (λ (g : k < n). List·getD-append (hashesAt n b at) _ [] k (omega arith) ∙ hash-at n b at k g)
+    (λ (g : n ≤ k).
+    let e : k ≡ n = omega arith in
+    rw e (getD-at (hashesAt n b at) (bytesAt 32 b (at + 32 * n)) [] [] n l))
+    (split k n)
+
+pub hash-of : (n first : ℕ) (code : List ℕ) (k : ℕ) → k < n → getD (hashesOf n first code) k [] ≡ hashOf (chunk first k code)
+unfolding hashesOf
+hash-of zero first code k h = absurd (omega arith)
+hash-of (suc n) first code k h =
+    let l = hashes-of-length n first code in
+    ⊎-elim
+    (λ (g : k < n). List·getD-append (hashesOf n first code) _ [] k (omega arith) ∙ hash-of n first code k g)
+    (λ (g : n ≤ k).
+    let e : k ≡ n = omega arith in
+    rw e (getD-at (hashesOf n first code) (hashOf (chunk first n code)) [] [] n l))
+    (split k n)
+
+-- the header's table has sixteen, of 32 bytes each
+pub table-length : (b : List ℕ) → length (hashTable b) ≡ 16
+unfolding hashTable
+table-length b = hashes-at-length 16 b (vendorLen b + 32)
+
+pub table-at : (b : List ℕ) (k : ℕ) → k < 16 → getD (hashTable b) k [] ≡ bytesAt 32 b (vendorLen b + 32 + 32 * k)
+unfolding hashTable
+table-at b k h = hash-at 16 b (vendorLen b + 32) k h
+
+-- ---- S23, one chunk at a time
+
+pub wrong-unused : (bytes : List ℕ) (k : ℕ) → length bytes ≡ 0 → record { number = 15; part = 3; chunk = k } ≡ wrongHash bytes k
+wrong-unused [] k e = refl
+wrong-unused (x ∷ bytes) k e = absurd (omega arith)
+
+pub wrong-used : (bytes : List ℕ) (k : ℕ) → (length bytes ≡ 0 → ⊥) → record { number = 14; part = 3; chunk = k } ≡ wrongHash bytes k
+wrong-used [] k e = absurd (e refl)
+wrong-used (x ∷ bytes) k e = refl
+
+-- d is the hash that the function made, x its test
+pub row-failed : {d : List ℕ} {x : Bool} {r : Refusal} (k : ℕ) (bytes hash : List ℕ) → d ≡ hashOf bytes → x ≡ same d hash → not x ≡ true → r ≡ wrongHash bytes k
+    → Refused r ≡ firstFailing (chunkRow k bytes hash ∷ [])
+unfolding chunkRow firstFailing
+row-failed k bytes hash e f g h = rw (← e, ← f, g) (ap Refused h)
+
+pub row-passed : {d : List ℕ} {x : Bool} (k : ℕ) (bytes hash : List ℕ) → d ≡ hashOf bytes → x ≡ same d hash → not x ≡ false → Pass ≡ firstFailing (chunkRow k bytes hash ∷ [])
+unfolding chunkRow firstFailing
+row-passed k bytes hash e f g = rw (← e, ← f, g)
+
+-- the row of chunk k + 1
+abbrev pub rowAt : List ℕ → ℕ → Row
+rowAt b k = chunkRow (suc k) (chunk (firstRoom (vendorLen b)) k (codeOf b)) (getD (hashTable b) k [])
+
+-- a row by itself, and before others
+row-passes : (r : Row) (rows : List Row) → firstFailing (r ∷ []) ≡ Pass → firstFailing (r ∷ rows) ≡ firstFailing rows
+unfolding firstFailing
+row-passes (row true r) rows h = cc
+row-passes (row false r) rows h = refl
+
+row-fails : {f : Refusal} (r : Row) (rows : List Row) → firstFailing (r ∷ []) ≡ Refused f → firstFailing (r ∷ rows) ≡ Refused f
+unfolding firstFailing
+row-fails (row true r) rows h = h
+row-fails (row false r) rows h = cc
+
+-- before chunk k + 1: at is where it starts in the code, and the answer is that of the chunks from it on
+pub record Reached (b : List ℕ) (table : List (List ℕ)) (code : List ℕ) (first at k : ℕ) : Type 0 where
+  pub count : k ≤ 16
+  pub hashes : table ≡ hashTable b
+  pub bytes : code ≡ codeOf b
+  pub room : first ≡ firstRoom (vendorLen b)
+  pub start : at ≡ chunkStart first k
+  pub answer : firstFailing (hashRows b) ≡ firstFailing (chunkRows b k (16 - k))
+
+pub reached-first : (b : List ℕ) (table : List (List ℕ)) (code : List ℕ) (first : ℕ) → table ≡ hashTable b → code ≡ codeOf b → first ≡ firstRoom (vendorLen b)
+    → Reached b table code first 0 0
+unfolding hashRows chunkStart
+reached-first b table code first et ec ef =
+    record { count = omega arith; hashes = et; bytes = ec; room = ef; start = refl; answer = refl }
+
+module _ {b : List ℕ} {table : List (List ℕ)} {code : List ℕ} {first at k : ℕ} (w : Reached b table code first at k) where
+  pub room-small : roomOf first k ≤ 131072
+  room-small = let e = w .room in room-most first k (omega arith)
+
+  pub start-small : at ≤ 131072 * k
+  start-small = let e = w .room in let f = w .start in let g = start-most first k (omega arith) in omega arith
+
+  -- all sixteen are right
+  pub reached-end : 16 ≤ k → Pass ≡ firstFailing (hashRows b)
+  unfolding chunkRows firstFailing
+  reached-end h =
+      let e : 16 - k ≡ 0 = omega arith in
+      sym (w .answer ∙ ap (λ (n : ℕ). firstFailing (chunkRows b k n)) e)
+
+  -- room is the chunk's room, p its bytes, o what its row answers
+  module _ (below : k < 16) {o : Outcome} {p : List ℕ} {room : ℕ} (er : room ≡ roomOf first k) (ep : p ≡ between at (at + room) code)
+      (eo : o ≡ firstFailing (chunkRow (k + 1) p (getD table k []) ∷ [])) where
+    next-start : at + room ≡ chunkStart first (k + 1)
+    next-start = ap₂ (λ (x y : ℕ). x + y) (w .start) er ∙ start-more first k
+
+    row-is : o ≡ firstFailing (rowAt b k ∷ [])
+    row-is =
+        eo
+        ∙ rw (add-one k, w .hashes)
+        (ap
+        (λ (l : List ℕ). firstFailing (chunkRow (suc k) l (getD (hashTable b) k []) ∷ []))
+        (ep
+        ∙ ap₂ (λ (x y : ℕ). between x y code) (w .start) next-start
+        ∙ chunk-is first k code
+        ∙ ap₂ (λ (f : ℕ) (l : List ℕ). chunk f k l) (w .room) (w .bytes)))
+
+    one-left : firstFailing (hashRows b) ≡ firstFailing (rowAt b k ∷ chunkRows b (suc k) (16 - (k + 1)))
+    unfolding chunkRows
+    one-left =
+        let e : 16 - k ≡ suc (16 - (k + 1)) = omega arith in
+        w .answer ∙ ap (λ (n : ℕ). firstFailing (chunkRows b k n)) e
+
+    pub reached-next : o ≡ Pass → Reached b table code first (at + room) (k + 1)
+    reached-next h =
+        record {
+          count = omega arith;
+          hashes = w .hashes;
+          bytes = w .bytes;
+          room = w .room;
+          start = next-start;
+          answer = one-left ∙ rw (add-one k) (row-passes (rowAt b k) _ (sym row-is ∙ h));
+        }
+
+    pub reached-wrong : {r : Refusal} → o ≡ Refused r → Refused r ≡ firstFailing (hashRows b)
+    reached-wrong h = sym (one-left ∙ row-fails (rowAt b k) _ (sym row-is ∙ h))
+
+-- ---- S23 passes exactly where each hash is right
+
+-- the hash of chunk k + 1 is right
+abbrev pub RightHash : List ℕ → ℕ → Type 0
+RightHash b k = hashOf (chunk (firstRoom (vendorLen b)) k (codeOf b)) ≡ getD (hashTable b) k []
+
+pub chunk-rows-pass : (b : List ℕ) (k n : ℕ) → ((i : ℕ) → k ≤ i → i < k + n → RightHash b i) → firstFailing (chunkRows b k n) ≡ Pass
+unfolding chunkRows chunkRow firstFailing
+chunk-rows-pass b k zero h = refl
+chunk-rows-pass b k (suc n) h =
+    rw (h k (omega arith) (omega arith), same-self) (chunk-rows-pass b (suc k) n (λ i g l. h i (omega arith) (omega arith)))
+
+pub chunk-rows-right : (b : List ℕ) (k n : ℕ) → firstFailing (chunkRows b k n) ≡ Pass → (i : ℕ) → k ≤ i → i < k + n → RightHash b i
+unfolding chunkRows chunkRow
+chunk-rows-right b k zero h i g l = absurd (omega arith)
+chunk-rows-right b k (suc n) h i g l =
+    ⊎-elim
+    (λ (e : k < i). chunk-rows-right b (suc k) n (pass-tail _ _ _ h) i (omega arith) (omega arith))
+    (λ (e : i ≤ k). let q : i ≡ k = omega arith in rw q (same-equal _ _ (not-false _ (pass-head _ _ _ h))))
+    (split k i)
+
+pub hashes-pass : (b : List ℕ) → hashTable b ≡ hashesOf 16 (firstRoom (vendorLen b)) (codeOf b) → firstFailing (hashRows b) ≡ Pass
+unfolding hashRows
+hashes-pass b e = chunk-rows-pass b 0 16 (λ i g l. sym (rw e (hash-of 16 (firstRoom (vendorLen b)) (codeOf b) i (omega arith))))
+
+pub hashes-right : (b : List ℕ) → firstFailing (hashRows b) ≡ Pass → hashTable b ≡ hashesOf 16 (firstRoom (vendorLen b)) (codeOf b)
+unfolding hashRows
+hashes-right b h =
+    let l = table-length b in
+    let m = hashes-of-length 16 (firstRoom (vendorLen b)) (codeOf b) in
+    ext-getD
+    []
+    (hashTable b)
+    (hashesOf 16 (firstRoom (vendorLen b)) (codeOf b))
+    (l ∙ sym m)
+    (λ i g. sym (chunk-rows-right b 0 16 h i (omega arith) (omega arith)) ∙ sym (hash-of 16 (firstRoom (vendorLen b)) (codeOf b) i (omega arith)))

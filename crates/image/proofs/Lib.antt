@@ -1,0 +1,5 @@
+-- The laws that the proofs of image, and of the crates above it, cite.
+pub mod Hashes
+pub mod Facts
+pub mod Alike
+pub mod Erased

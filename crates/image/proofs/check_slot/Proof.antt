@@ -1,0 +1,16 @@
+-- `image::check_slot` meets its contract: S1, S22, the rows and the answer are what the calls promise.
+use borrow.Author.Needs.{needs}
+use Rattle.image.specs.Check.{checkSlot}
+use Rattle.image.proofs.check_slot.Statement.{statement}
+use Rattle.image.proofs.check_slot.Tie as tie
+
+pub check-slot-spec : {M : Type 1} → statement M
+unfolding checkSlot
+check-slot-spec =
+    tie.close
+    (tie.spec
+    (λ c κs. search needs)
+    (λ c κs. search needs)
+    (λ c κs. search needs)
+    (λ c κs. search needs)
+    (λ c. cc))

@@ -1,0 +1,13 @@
+-- `image::code_area` meets its contract: `part` promises the bytes between two places, and the calls those places.
+use borrow.Author.Needs.{needs}
+use Rattle.image.proofs.code_area.Statement.{statement}
+use Rattle.image.proofs.code_area.Tie as tie
+
+pub code-area-spec : {M : Type 1} → statement M
+code-area-spec =
+    tie.close
+    (tie.spec
+    (λ c κs. search needs)
+    (λ c κs. search needs)
+    (λ c κs. search needs)
+    (λ c. cc))

@@ -1,0 +1,15 @@
+-- `image::string_area` meets its contract: `part` promises the bytes between two places, and the calls those places.
+use borrow.Author.Needs.{needs}
+use Rattle.image.proofs.string_area.Statement.{statement}
+use Rattle.image.proofs.string_area.Tie as tie
+
+pub string-area-spec : {M : Type 1} → statement M
+string-area-spec =
+    tie.close
+    (tie.spec
+    (λ c κs. search needs)
+    (λ c κs. search needs)
+    (λ c κs. search needs)
+    (λ c κs. search needs)
+    (λ c κs. search needs)
+    (λ c. cc))

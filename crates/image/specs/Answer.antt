@@ -1,0 +1,44 @@
+-- What a check answers.
+-- Assumes nothing.
+use Prim.Native.Nat.{ℕ, _+_}
+use mathlib.Core.List.{List}
+use lib.ListN.{getD}
+use Rattle.header.specs.Layout.{vendorLen, codeLen}
+use Rattle.header.specs.declared.Outcome.{Outcome}
+use Rattle.header.specs.declared.Outcome.the-variants.{Pass, Refused}
+use Rattle.image.specs.declared.Version.{Version}
+use Rattle.image.specs.declared.Image.{Image}
+use Rattle.image.specs.declared.Answer.{Answer}
+use Rattle.image.specs.declared.Answer.the-variants.{Accepted, Rejected}
+
+-- the paper's number, part and chunk of every answer
+abbrev pub numberOf : Answer → ℕ
+numberOf (Accepted i) = 0
+numberOf (Rejected r) = r .number
+
+abbrev pub partOf : Answer → ℕ
+partOf (Accepted i) = 0
+partOf (Rejected r) = r .part
+
+abbrev pub chunkOf : Answer → ℕ
+chunkOf (Accepted i) = 0
+chunkOf (Rejected r) = r .chunk
+
+-- major, minor, patch, build
+abbrev pub versionAt : List ℕ → ℕ → Version
+versionAt b at = record { major = getD b at 0; minor = getD b (at + 1) 0; patch = getD b (at + 2) 0; build = getD b (at + 3) 0 }
+
+-- what an acceptance tells: v, codelen, and the firmware header's two versions
+unfoldable pub imageOf : List ℕ → Image
+imageOf b =
+    record {
+      v = vendorLen b;
+      codelen = codeLen b;
+      version = versionAt b (vendorLen b + 16);
+      fix = versionAt b (vendorLen b + 20);
+    }
+
+-- an outcome of all steps as the answer
+abbrev pub answerOf : Outcome → Image → Answer
+answerOf Pass i = Accepted i
+answerOf (Refused r) i = Rejected r

@@ -1,0 +1,72 @@
+-- The code in chunks, and S23 (01, "Firmware header" and "The check, in order"): hash k is the BLAKE2s digest of chunk k, or all zero if chunk k holds nothing.
+-- Chunks count from 1 in an answer; here k counts from 0, so that chunk k + 1 stands at k.
+-- Assumes nothing.
+use Prim.Native.Nat.{ℕ, zero, suc, _+_, _*_}
+use mathlib.Core.List.{List, [], _∷_, _++_}
+use mathlib.Core.Bool.{not}
+use lib.ListN.{getD, replicate}
+use Rattle.field.specs.Field.{between, bytesAt, same}
+use Rattle.blake2s.specs.Rfc7693.{blake2sOf}
+use Rattle.header.specs.Layout.{vendorLen, codeStart, imageLen, firstRoom}
+use Rattle.header.specs.Table.{Row, row}
+use Rattle.header.specs.declared.Refusal.{Refusal}
+
+-- ---- chunks of the code, by the room that chunk 1 has
+
+-- chunk 1 has what is left for it, chunks 2 to 16 have 131,072 bytes each
+abbrev pub roomOf : ℕ → ℕ → ℕ
+roomOf first zero = first
+roomOf first (suc k) = 131072
+
+-- code fills them in order: where each starts in the code
+unfoldable pub chunkStart : ℕ → ℕ → ℕ
+chunkStart first zero = 0
+chunkStart first (suc k) = chunkStart first k + roomOf first k
+
+-- the last used may be partial, and those behind it hold nothing
+unfoldable pub chunk : ℕ → ℕ → List ℕ → List ℕ
+chunk first k code = between (chunkStart first k) (chunkStart first (suc k)) code
+
+-- ---- hashes
+
+-- the hash of a chunk that holds these bytes
+unfoldable pub hashOf : List ℕ → List ℕ
+hashOf [] = replicate 32 0
+hashOf (x ∷ xs) = blake2sOf (x ∷ xs)
+
+-- the hashes of the first n chunks
+unfoldable pub hashesOf : ℕ → ℕ → List ℕ → List (List ℕ)
+hashesOf zero first code = []
+hashesOf (suc n) first code = hashesOf n first code ++ (hashOf (chunk first n code) ∷ [])
+
+-- the first n hashes that stand in a table at an offset
+unfoldable pub hashesAt : ℕ → List ℕ → ℕ → List (List ℕ)
+hashesAt zero b at = []
+hashesAt (suc n) b at = hashesAt n b at ++ (bytesAt 32 b (at + 32 * n) ∷ [])
+
+-- the sixteen hashes of the firmware header
+unfoldable pub hashTable : List ℕ → List (List ℕ)
+hashTable b = hashesAt 16 b (vendorLen b + 32)
+
+-- ---- S23
+
+abbrev pub codeOf : List ℕ → List ℕ
+codeOf b = between (codeStart b) (imageLen b) b
+
+-- 14 if the chunk is used, 15 if it holds nothing; part 3, and the chunk
+abbrev pub wrongHash : List ℕ → ℕ → Refusal
+wrongHash [] k = record { number = 15; part = 3; chunk = k }
+wrongHash (x ∷ xs) k = record { number = 14; part = 3; chunk = k }
+
+-- chunk number k with these bytes and this hash
+unfoldable pub chunkRow : ℕ → List ℕ → List ℕ → Row
+chunkRow k bytes hash = row (not (same (hashOf bytes) hash)) (wrongHash bytes k)
+
+-- a row for each of the n chunks from k on
+unfoldable pub chunkRows : List ℕ → ℕ → ℕ → List Row
+chunkRows b k zero = []
+chunkRows b k (suc n) = chunkRow (suc k) (chunk (firstRoom (vendorLen b)) k (codeOf b)) (getD (hashTable b) k []) ∷ chunkRows b (suc k) n
+
+-- S23: the lowest chunk whose hash is wrong
+unfoldable pub hashRows : List ℕ → List Row
+hashRows b = chunkRows b 0 16

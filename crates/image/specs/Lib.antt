@@ -1,0 +1,6 @@
+-- What the contracts of image cite.
+pub mod Chunks
+pub mod Answer
+pub mod Check
+pub mod Parts
+pub mod Theorems

@@ -1,0 +1,185 @@
+// The check of an image, as a file and as it stands in a slot: steps S1 to S23, and what it hands
+// back.
+//
+// Any bytes, any inputs: an answer, and nothing is written. Nothing of the image is copied but its
+// table of sixteen hashes. The check of a slot is the boot check.
+pub mod chunks;
+pub mod theorems;
+
+use chunks::hash_rows;
+use field::byte_at;
+use field::minus;
+use field::part;
+use field::rest;
+use field::starts_with;
+use header::Inputs;
+use header::Outcome;
+use header::Refusal;
+use header::layout::code_len;
+use header::layout::code_start;
+use header::layout::image_len;
+use header::layout::key_count;
+use header::layout::picture_start;
+use header::layout::string_end;
+use header::layout::string_len;
+use header::layout::string_start;
+use header::layout::vendor_len;
+use header::steps::bytes_follow;
+use header::steps::tail_not_erased;
+use header::steps::vendor_magic_missing;
+use header::table::extent_rows;
+use header::table::header_rows;
+ghost use mathlib.Core.Path.{_≡_};
+ghost use mathlib.Core.List.{_++_};
+ghost use lib.ListN.{drop};
+ghost use Rattle.header.specs.Table.{firstFailing};
+ghost use Rattle.image.specs.Chunks.{codeOf};
+ghost use Rattle.image.specs.Answer.{versionAt, imageOf, answerOf};
+ghost use Rattle.image.specs.Check.{checkRows, checkFile, checkSlot};
+ghost use Rattle.image.specs.Parts.{stringOf, pictureOf, whenAccepted};
+
+// A version: major, minor, patch, build.
+pub struct Version {
+    pub major: u8,
+    pub minor: u8,
+    pub patch: u8,
+    pub build: u8,
+}
+
+// What an acceptance tells: the vendor header's length, the code's, and the two versions of the
+// firmware header.
+pub struct Image {
+    pub v: u32,
+    pub codelen: u32,
+    pub version: Version,
+    pub fix: Version,
+}
+
+// What a check answers.
+pub enum Answer {
+    Accepted(Image),
+    Rejected(Refusal),
+}
+
+fn version_at(b: &[u8], at: usize) -> Version
+    ensures { λ r. ⌜ r ≡ versionAt (now (b .entry)) at ⌝ }
+{
+    let v = rest(b, at);
+    Version {
+        major: byte_at(v, 0),
+        minor: byte_at(v, 1),
+        patch: byte_at(v, 2),
+        build: byte_at(v, 3),
+    }
+}
+
+fn image_of(b: &[u8]) -> Image
+    ensures { λ r. ⌜ r ≡ imageOf (now (b .entry)) ⌝ }
+{
+    let v = vendor_len(b);
+    let at = v as usize;
+    Image {
+        v,
+        codelen: code_len(b),
+        version: version_at(b, at + 16),
+        fix: version_at(b, at + 20),
+    }
+}
+
+// S1 to S23, where S1 and S22 fail as told.
+fn check_rows(magic_missing: bool, tail_wrong: bool, b: &[u8], given: Inputs) -> Outcome
+    ensures { λ r. ⌜ r ≡ firstFailing (checkRows «magic_missing» «tail_wrong» (now (b .entry)) given) ⌝ }
+{
+    let headers = header_rows(magic_missing, b, given);
+    if let Outcome::Refused(r) = headers {
+        return Outcome::Refused(r);
+    }
+    let extent = extent_rows(tail_wrong, b);
+    if let Outcome::Refused(r) = extent {
+        return Outcome::Refused(r);
+    }
+    hash_rows(b)
+}
+
+fn answer_of(outcome: Outcome, b: &[u8]) -> Answer
+    ensures { λ r. ⌜ r ≡ answerOf outcome (imageOf (now (b .entry))) ⌝ }
+{
+    match outcome {
+        Outcome::Refused(r) => Answer::Rejected(r),
+        Outcome::Pass => Answer::Accepted(image_of(b)),
+    }
+}
+
+// The check of a file.
+pub fn check_file(b: &[u8], given: Inputs) -> Answer
+    ensures { λ r. ⌜ r ≡ checkFile (now (b .entry)) given ⌝ }
+{
+    let outcome = check_rows(vendor_magic_missing(b), bytes_follow(b), b, given);
+    answer_of(outcome, b)
+}
+
+// The check of a slot, which is the boot check.
+pub fn check_slot(b: &[u8], given: Inputs) -> Answer
+    ensures { λ r. ⌜ r ≡ checkSlot (now (b .entry)) given ⌝ }
+{
+    let outcome = check_rows(vendor_magic_missing(b), tail_not_erased(b), b, given);
+    answer_of(outcome, b)
+}
+
+// The check of a file whose first word is given apart: of first, and then the bytes from 4 on.
+pub fn check_file_word_apart(first: [u8; 4], b: &[u8], given: Inputs) -> Answer
+    ensures { λ r. ⌜ r ≡ checkFile (first ++ drop 4 (now (b .entry))) given ⌝ }
+{
+    let outcome = check_rows(!starts_with(&first, b"TRZV"), bytes_follow(b), b, given);
+    answer_of(outcome, b)
+}
+
+fn string_area(b: &[u8]) -> &[u8]
+    ensures { λ r. ⌜ now r ≡ stringOf (now (b .entry)) ⌝ }
+{
+    let n = key_count(b);
+    part(b, string_start(n), string_end(n, string_len(b)))
+}
+
+fn picture_area(b: &[u8]) -> &[u8]
+    ensures { λ r. ⌜ now r ≡ pictureOf (now (b .entry)) ⌝ }
+{
+    let start = picture_start(key_count(b), string_len(b));
+    part(b, start, minus(vendor_len(b) as usize, 65))
+}
+
+fn code_area(b: &[u8]) -> &[u8]
+    ensures { λ r. ⌜ now r ≡ codeOf (now (b .entry)) ⌝ }
+{
+    part(b, code_start(b), image_len(b))
+}
+
+// The vendor's string in the checked bytes, and nothing after a refusal.
+pub fn string(b: &[u8], answer: Answer) -> &[u8]
+    ensures { λ r. ⌜ now r ≡ whenAccepted answer (stringOf (now (b .entry))) ⌝ }
+{
+    match answer {
+        Answer::Rejected(_) => &b[..0],
+        Answer::Accepted(_) => string_area(b),
+    }
+}
+
+// The picture area in the checked bytes, and nothing after a refusal.
+pub fn picture(b: &[u8], answer: Answer) -> &[u8]
+    ensures { λ r. ⌜ now r ≡ whenAccepted answer (pictureOf (now (b .entry))) ⌝ }
+{
+    match answer {
+        Answer::Rejected(_) => &b[..0],
+        Answer::Accepted(_) => picture_area(b),
+    }
+}
+
+// The code in the checked bytes, and nothing after a refusal.
+pub fn code(b: &[u8], answer: Answer) -> &[u8]
+    ensures { λ r. ⌜ now r ≡ whenAccepted answer (codeOf (now (b .entry))) ⌝ }
+{
+    match answer {
+        Answer::Rejected(_) => &b[..0],
+        Answer::Accepted(_) => code_area(b),
+    }
+}

@@ -1,0 +1,12 @@
+// What is shown of the checks, each as the promise of a function with an empty body.
+ghost use Rattle.image.specs.Theorems.{ErasedWordRefused, AcceptedBeforeErased};
+
+// An erased first word makes the slot check refuse with number 1, for any inputs.
+pub fn erased_word_is_refused()
+    ensures { λ r. ⌜ ErasedWordRefused ⌝ }
+{}
+
+// What the file check accepts, the slot check accepts when erased bytes follow.
+pub fn accepted_before_erased_bytes()
+    ensures { λ r. ⌜ AcceptedBeforeErased ⌝ }
+{}

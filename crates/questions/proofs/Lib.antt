@@ -1,0 +1,2 @@
+-- The laws that the proofs of questions cite.
+pub mod Laws

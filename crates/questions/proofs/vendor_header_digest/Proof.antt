@@ -1,0 +1,17 @@
+-- `questions::vendor_header_digest` meets its contract: `part` lends the header up to its sigmask, and `blake2s_zero_tailed` puts the zeros after it.
+use borrow.Author.Needs.{needs}
+use Rattle.questions.specs.Questions.{signedVendor}
+use Rattle.questions.proofs.vendor_header_digest.Statement.{statement}
+use Rattle.questions.proofs.vendor_header_digest.Tie as tie
+
+pub vendor-header-digest-spec : {M : Type 1} → statement M
+unfolding signedVendor
+vendor-header-digest-spec =
+    tie.close
+    (tie.spec
+    (λ c κs. search needs)
+    (λ c. search needs)
+    (λ c κs. search needs)
+    (λ c κs. search needs)
+    (λ c κs. search needs)
+    (λ c. cc))
