@@ -1,7 +1,7 @@
 -- The vendor trust reading (01, "Vendor trust"): a feature is active where its bit is unset. Bits 8 to 15 have no reading.
 -- Assumes nothing.
 use Prim.Native.Nat.{ℕ, _+_, _^_}
-use mathlib.Core.Bool.{Bool, cond}
+use mathlib.Core.Bool.{cond}
 use Rattle.field.specs.Field.{bitUnset}
 use Rattle.header.specs.declared.trust.Trust.{Trust}
 

@@ -1,9 +1,6 @@
 // The vendor trust reading: what the signer shows and asks before it runs the vendor's firmware.
 ghost use mathlib.Core.Path.{_≡_};
-ghost use Prim.Native.Nat.{_^_};
 ghost use mathlib.Core.Bool.{cond};
-ghost use Rattle.field.specs.Field.{bitUnset};
-ghost use Rattle.header.specs.Layout.{vtrust};
 ghost use Rattle.header.specs.Trust.{trustOf};
 
 // The seconds to wait; whether the background is red, a click is needed, the vendor's string is
@@ -22,8 +19,8 @@ fn seconds(active: bool, n: u32) -> u32
     if active { n } else { 0 }
 }
 
-// The reading of the 16 bits of vtrust.
-pub fn trust_of(x: u16) -> Trust
+// The reading of a vtrust field.
+pub fn trust_of(x: u32) -> Trust
     ensures { λ r. ⌜ r ≡ trustOf x ⌝ }
 {
     let one = seconds(x / 1 % 2 == 0, 1);

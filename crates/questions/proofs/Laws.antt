@@ -1,7 +1,7 @@
 -- How a question is answered by its rows and its digest, and that a word given apart changes neither.
 -- Assumes nothing.
 use Prim.Native.Nat.{ℕ, suc, _+_, _-_}
-use mathlib.Core.Path.{_≡_, refl, sym, ap, ap₂, _∙_}
+use mathlib.Core.Path.{_≡_, refl, ap, _∙_}
 use mathlib.Core.List.{List, [], _∷_, _++_, append-assoc}
 use mathlib.Core.Bool.{Bool, not}
 use native.Mathlib.Omega.{arith}
@@ -12,33 +12,21 @@ use Rattle.blake2s.specs.Parts.{zeroTailed}
 use Rattle.header.specs.Layout.{TRZV, vendorLen, maskAt}
 use Rattle.header.specs.Steps.{vendorMagicMissing}
 use Rattle.header.specs.Table.{Row, firstFailing, vendorShape, firmwareShape}
-use Rattle.header.specs.declared.Refusal.{Refusal}
 use Rattle.header.specs.declared.Outcome.{Outcome}
 use Rattle.header.specs.declared.Outcome.the-variants.{Pass, Refused}
 use Rattle.header.proofs.Rows.{same-row, same-stage, stage-first, pass-tail}
 use Rattle.header.proofs.Facts.{vendor-shaped}
 use Rattle.header.proofs.Alike.{vendor-len-alike, between-alike}
-use Rattle.questions.specs.declared.Digest.{Digest}
 use Rattle.questions.specs.Questions.{vendorRows, firmwareRows, signedVendor, signedFirmware, answered, vendorDigest, firmwareDigest}
 use Rattle.header.proofs.WordApart.{read-after-word, shaped-word-alike, word-magic, word-vendor-shape, word-firmware-shape}
 
-abbrev reply : Outcome → List ℕ → Digest
-reply o d = record { outcome = o; digest = d }
+-- ---- a call's return, whichever its rows are
 
--- ---- a call's two returns, whichever its rows are
-
--- o is what the rows' function returned, given x for S1's answer m
-module _ {x m : Bool} {o : Outcome} (rows : Bool → List ℕ → List Row) (b e : List ℕ) (magic : x ≡ m) (first : o ≡ firstFailing (rows x b)) where
-  outcome-is : {p : Outcome} → o ≡ p → answered p e ≡ answered (firstFailing (rows m b)) e
-  outcome-is q = ap (λ (p : Outcome). answered p e) (sym q ∙ first ∙ ap (λ (y : Bool). firstFailing (rows y b)) magic)
-
-  -- they pass, and d is the digest
-  pub told : {d : List ℕ} → o ≡ Pass → d ≡ e → reply o d ≡ answered (firstFailing (rows m b)) e
-  told q h = ap₂ reply q h ∙ outcome-is q
-
-  -- they refuse, and zeros stand in the digest's place
-  pub untold : {r : Refusal} → o ≡ Refused r → reply o (replicate 32 0) ≡ answered (firstFailing (rows m b)) e
-  untold q = ap (λ (p : Outcome). reply p (replicate 32 0)) q ∙ outcome-is q
+-- o is what the rows' function returned, given x for S1's answer m. The call found it to be p, and replies with o and d
+pub answers : {x m : Bool} {o p : Outcome} {d : List ℕ} (rows : Bool → List ℕ → List Row) (b e : List ℕ) → x ≡ m → o ≡ firstFailing (rows x b) → o ≡ p
+    → record { outcome = p; digest = d } ≡ answered p e
+    → record { outcome = o; digest = d } ≡ answered (firstFailing (rows m b)) e
+answers rows b e magic first found h = rw (← magic, ← first, found) h
 
 -- ---- the word given apart
 

@@ -1,6 +1,8 @@
 // The C interface: what firmware links. `include/thimmorel.h` declares and documents each call.
 //
 // An exported function is thin. It calls the proved library and carries the same promise.
+mod check;
+
 ghost use mathlib.Core.Path.{_≡_};
 ghost use Rattle.blake2s.specs.Rfc7693.{blake2sOf};
 

@@ -1,7 +1,8 @@
 -- `questions::firmware_digest` meets its contract: the rows are asked with S1's own answer, and the digest is made where they pass.
 use borrow.Author.Needs.{needs}
+use mathlib.Core.Path.{refl}
 use Rattle.questions.specs.Questions.{firmwareRows, firmwareDigest}
-use Rattle.questions.proofs.Laws.{told, untold}
+use Rattle.questions.proofs.Laws.{answers}
 use Rattle.questions.proofs.firmware_digest.Statement.{statement}
 use Rattle.questions.proofs.firmware_digest.Tie as tie
 
@@ -15,5 +16,5 @@ firmware-digest-spec =
     (λ c. search needs)
     (λ c. search needs)
     (λ c κs. search needs)
-    (λ c. untold firmwareRows _ _ (c .before .before .before .vendor-magic-missing .ensures) (c .before .before .firmware-rows .ensures) (c .enum-told .given .1))
-    (λ c. told firmwareRows _ _ (c .before .before .before .before .vendor-magic-missing .ensures) (c .before .before .before .firmware-rows .ensures) (c .before .enum-told2 .given .1) (c .firmware-header-digest .ensures)))
+    (λ c. answers firmwareRows _ _ (c .before .before .before .vendor-magic-missing .ensures) (c .before .before .firmware-rows .ensures) (c .enum-told .given .1) refl)
+    (λ c. answers firmwareRows _ _ (c .before .before .before .before .vendor-magic-missing .ensures) (c .before .before .before .firmware-rows .ensures) (c .before .enum-told2 .given .1) (rw (c .firmware-header-digest .ensures))))

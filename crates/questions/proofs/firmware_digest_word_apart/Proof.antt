@@ -2,9 +2,9 @@
 use borrow.Author.Needs.{needs}
 use denote.Ref.{now}
 use mathlib.Core.Bool.{not}
-use mathlib.Core.Path.{ap, sym, _∙_}
+use mathlib.Core.Path.{refl, sym, ap, _∙_}
 use Rattle.questions.specs.Questions.{firmwareRows}
-use Rattle.questions.proofs.Laws.{told, untold, firmware-apart}
+use Rattle.questions.proofs.Laws.{answers, firmware-apart}
 use Rattle.questions.proofs.firmware_digest_word_apart.Statement.{statement}
 use Rattle.questions.proofs.firmware_digest_word_apart.Tie as tie
 
@@ -22,10 +22,10 @@ firmware-digest-word-apart-spec =
     (λ c.
     let r = c .before .before in
     let a = r .before .before .before .before .before .args in
-    untold firmwareRows _ _ (ap not (r .before .starts-with .ensures)) (r .firmware-rows .ensures) (c .enum-told .given .1)
+    answers firmwareRows _ _ (ap not (r .before .starts-with .ensures)) (r .firmware-rows .ensures) (c .enum-told .given .1) refl
     ∙ sym (firmware-apart (a .t1) (now (a .b)) (search needs)))
     (λ c.
     let r = c .before .before .before in
     let a = r .before .before .before .before .before .args in
-    told firmwareRows _ _ (ap not (r .before .starts-with .ensures)) (r .firmware-rows .ensures) (c .before .enum-told2 .given .1) (c .firmware-header-digest .ensures)
+    answers firmwareRows _ _ (ap not (r .before .starts-with .ensures)) (r .firmware-rows .ensures) (c .before .enum-told2 .given .1) (rw (c .firmware-header-digest .ensures))
     ∙ sym (firmware-apart (a .t1) (now (a .b)) (search needs))))

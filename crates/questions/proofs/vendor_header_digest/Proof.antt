@@ -14,4 +14,4 @@ vendor-header-digest-spec =
     (λ c κs. search needs)
     (λ c κs. search needs)
     (λ c κs. search needs)
-    (λ c. cc))
+    (λ c. rw (c .blake2s-zero-tailed .ensures, c .before .part .ensures, c .before .before .minus .ensures, c .before .before .before .vendor-len .ensures)))

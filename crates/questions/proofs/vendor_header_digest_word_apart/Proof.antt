@@ -12,4 +12,4 @@ vendor-header-digest-word-apart-spec =
     (λ c κs. search needs)
     (λ c κs. search needs)
     (λ c κs. search needs)
-    (λ c. cc))
+    (λ c. rw (c .blake2s-word-apart .ensures, c .before .part .ensures, c .before .before .minus .ensures, c .before .before .before .vendor-len .ensures)))

@@ -13,8 +13,8 @@ at-most true n = omega arith
 at-most false n = omega arith
 
 -- the whole sum fits, and so do the sums before it
-add-t11 : tie.Need-add-t11
-add-t11 c =
+add-t9 : tie.Need-add-t9
+add-t9 c =
     let x = c .before .before .before .before .args .x in
     omega (arith, at-most (bitUnset 0 x) 1, at-most (bitUnset 1 x) 2, at-most (bitUnset 2 x) 4, at-most (bitUnset 3 x) 8)
 
@@ -27,9 +27,9 @@ trust-of-spec =
     (λ c κs. search needs)
     (λ c κs. search needs)
     (λ c κs. search needs)
-    (λ c. omega (arith, add-t11 c))
-    (λ c. omega (arith, add-t11 c))
-    add-t11
+    (λ c. omega (arith, add-t9 c))
+    (λ c. omega (arith, add-t9 c))
+    add-t9
     (λ c.
     let s3 = c .before in
     let s2 = s3 .before in

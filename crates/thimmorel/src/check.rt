@@ -1,0 +1,123 @@
+// The checks, for C.
+use header::Inputs;
+use image::Answer;
+use image::Image;
+use image::Version;
+use image::check_file;
+use image::check_slot;
+ghost use mathlib.Core.Path.{_≡_};
+ghost use Rattle.image.specs.Answer.{numberOf};
+ghost use Rattle.image.specs.Check.{checkFile, checkSlot};
+ghost use Rattle.thimmorel.specs.Words.{inputs, whereWords, versionWord, toldWords, imageWords};
+
+fn number_of(answer: Answer) -> u32
+    ensures { λ r. ⌜ r ≡ numberOf answer ⌝ }
+{
+    match answer {
+        Answer::Accepted(_) => 0,
+        Answer::Rejected(r) => r.number,
+    }
+}
+
+fn where_words(answer: Answer) -> [u32; 2]
+    ensures { λ r. ⌜ r ≡ whereWords answer ⌝ }
+{
+    match answer {
+        Answer::Accepted(_) => [0, 0],
+        Answer::Rejected(r) => [r.part, r.chunk],
+    }
+}
+
+fn wide(x: u8) -> u32
+    ensures { λ r. ⌜ r ≡ x ⌝ }
+{
+    x as u32
+}
+
+fn version_word(x: Version) -> u32
+    ensures { λ r. ⌜ r ≡ versionWord x ⌝ }
+{
+    wide(x.major) + 256 * wide(x.minor) + 65536 * wide(x.patch) + 16777216 * wide(x.build)
+}
+
+fn told_words(i: Image) -> [u32; 4]
+    ensures { λ r. ⌜ r ≡ toldWords i ⌝ }
+{
+    let version = i.version;
+    let fix = i.fix;
+    [i.v, i.codelen, version_word(version), version_word(fix)]
+}
+
+fn image_words(answer: Answer, old: [u32; 4]) -> [u32; 4]
+    ensures { λ r. ⌜ r ≡ imageWords answer old ⌝ }
+{
+    match answer {
+        Answer::Accepted(i) => told_words(i),
+        Answer::Rejected(_) => old,
+    }
+}
+
+// The check of a file. The answer's number comes back, its part and chunk go to place, and what an
+// acceptance tells goes to image, which a refusal leaves as it was.
+#[no_mangle]
+pub extern "C" fn thimmorel_check_file(
+    bytes: &[u8],
+    time: u32,
+    m: u32,
+    n: u32,
+    vendor: bool,
+    firmware: bool,
+    place: &mut [u32; 2],
+    image: &mut [u32; 4],
+) -> u32
+    ensures { λ r. ⌜ r ≡ numberOf (checkFile (now (bytes .entry)) (inputs time m n vendor firmware)) ⌝ }
+    ensures { λ r. ⌜ now (place .exit) ≡ whereWords (checkFile (now (bytes .entry)) (inputs time m n vendor firmware)) ⌝ }
+    ensures { λ r. ⌜ now (image .exit) ≡ imageWords (checkFile (now (bytes .entry)) (inputs time m n vendor firmware)) (now (image .entry)) ⌝ }
+{
+    let given = Inputs {
+        time,
+        m,
+        n,
+        vendor,
+        firmware,
+    };
+    let answer = check_file(bytes, given);
+    let at = where_words(answer);
+    *place = at;
+    let old = *image;
+    let told = image_words(answer, old);
+    *image = told;
+    number_of(answer)
+}
+
+// The check of a slot, which is the boot check.
+#[no_mangle]
+pub extern "C" fn thimmorel_check_slot(
+    bytes: &[u8],
+    time: u32,
+    m: u32,
+    n: u32,
+    vendor: bool,
+    firmware: bool,
+    place: &mut [u32; 2],
+    image: &mut [u32; 4],
+) -> u32
+    ensures { λ r. ⌜ r ≡ numberOf (checkSlot (now (bytes .entry)) (inputs time m n vendor firmware)) ⌝ }
+    ensures { λ r. ⌜ now (place .exit) ≡ whereWords (checkSlot (now (bytes .entry)) (inputs time m n vendor firmware)) ⌝ }
+    ensures { λ r. ⌜ now (image .exit) ≡ imageWords (checkSlot (now (bytes .entry)) (inputs time m n vendor firmware)) (now (image .entry)) ⌝ }
+{
+    let given = Inputs {
+        time,
+        m,
+        n,
+        vendor,
+        firmware,
+    };
+    let answer = check_slot(bytes, given);
+    let at = where_words(answer);
+    *place = at;
+    let old = *image;
+    let told = image_words(answer, old);
+    *image = told;
+    number_of(answer)
+}
