@@ -1,9 +1,14 @@
 -- How the exported calls tell answers: as words.
 -- Assumes nothing.
-use Prim.Native.Nat.{ℕ, _+_, _*_}
-use mathlib.Core.Bool.{Bool}
+use Prim.Native.Nat.{ℕ, _+_, _-_, _*_}
+use mathlib.Core.Bool.{Bool, cond}
 use mathlib.Core.List.{List, [], _∷_}
+use lib.Dec.{eqb}
+use Rattle.header.specs.Layout.{vendorLen, keyCount, stringLen, stringStart, pictureStart, maskAt, codeStart, codeLen}
 use Rattle.header.specs.declared.Inputs.{Inputs}
+use Rattle.header.specs.declared.Outcome.{Outcome}
+use Rattle.header.specs.declared.Outcome.the-variants.{Pass, Refused}
+use Rattle.header.specs.declared.trust.Trust.{Trust}
 use Rattle.image.specs.declared.Version.{Version}
 use Rattle.image.specs.declared.Image.{Image}
 use Rattle.image.specs.declared.Answer.{Answer}
@@ -13,7 +18,9 @@ use Rattle.image.specs.declared.Answer.the-variants.{Accepted, Rejected}
 abbrev pub inputs : ℕ → ℕ → ℕ → Bool → Bool → Inputs
 inputs time m n vendor firmware = record { time = time; m = m; n = n; vendor = vendor; firmware = firmware }
 
--- part and chunk of an answer, both 0 of an acceptance
+-- ---- a check's answer
+
+-- part and chunk, both 0 of an acceptance
 abbrev pub whereWords : Answer → List ℕ
 whereWords (Accepted i) = 0 ∷ 0 ∷ []
 whereWords (Rejected r) = r .part ∷ r .chunk ∷ []
@@ -30,3 +37,40 @@ toldWords i = i .v ∷ i .codelen ∷ versionWord (i .version) ∷ versionWord (
 abbrev pub imageWords : Answer → List ℕ → List ℕ
 imageWords (Accepted i) old = toldWords i
 imageWords (Rejected r) old = old
+
+-- ---- a digest question's answer
+
+abbrev pub outcomeNumber : Outcome → ℕ
+outcomeNumber Pass = 0
+outcomeNumber (Refused r) = r .number
+
+abbrev pub outcomeWhere : Outcome → List ℕ
+outcomeWhere Pass = 0 ∷ 0 ∷ []
+outcomeWhere (Refused r) = r .part ∷ r .chunk ∷ []
+
+-- the digest where the question is answered; after a refusal the bytes stay as they were
+abbrev pub digestBytes : Outcome → List ℕ → List ℕ → List ℕ
+digestBytes Pass digest old = digest
+digestBytes (Refused r) digest old = old
+
+-- ---- parts and trust
+
+-- start and length of the string, of the picture area and of the code, where a check's number is 0; else zeros
+unfoldable pub partWords : ℕ → List ℕ → List ℕ
+partWords number b =
+    cond (eqb number 0)
+    (stringStart (keyCount b)
+    ∷ stringLen b
+    ∷ pictureStart (keyCount b) (stringLen b)
+    ∷ (maskAt (vendorLen b) - pictureStart (keyCount b) (stringLen b))
+    ∷ codeStart b
+    ∷ codeLen b
+    ∷ [])
+    (0 ∷ 0 ∷ 0 ∷ 0 ∷ 0 ∷ 0 ∷ [])
+
+abbrev pub flag : Bool → ℕ
+flag x = cond x 1 0
+
+-- the seconds, and 1 for each feature that is active
+abbrev pub trustWords : Trust → List ℕ
+trustWords t = t .seconds ∷ flag (t .red) ∷ flag (t .click) ∷ flag (t .string) ∷ flag (t .secret) ∷ []

@@ -57,8 +57,22 @@ fn image_words(answer: Answer, old: [u32; 4]) -> [u32; 4]
     }
 }
 
-// The check of a file. The answer's number comes back, its part and chunk go to place, and what an
-// acceptance tells goes to image, which a refusal leaves as it was.
+// The answer's number comes back, its part and chunk go to place, and what an acceptance tells goes
+// to image, which a refusal leaves as it was.
+fn tell(answer: Answer, place: &mut [u32; 2], image: &mut [u32; 4]) -> u32
+    ensures { λ r. ⌜ r ≡ numberOf answer ⌝ }
+    ensures { λ r. ⌜ now (place .exit) ≡ whereWords answer ⌝ }
+    ensures { λ r. ⌜ now (image .exit) ≡ imageWords answer (now (image .entry)) ⌝ }
+{
+    let at = where_words(answer);
+    *place = at;
+    let old = *image;
+    let told = image_words(answer, old);
+    *image = told;
+    number_of(answer)
+}
+
+// The check of a file.
 #[no_mangle]
 pub extern "C" fn thimmorel_check_file(
     bytes: &[u8],
@@ -81,13 +95,7 @@ pub extern "C" fn thimmorel_check_file(
         vendor,
         firmware,
     };
-    let answer = check_file(bytes, given);
-    let at = where_words(answer);
-    *place = at;
-    let old = *image;
-    let told = image_words(answer, old);
-    *image = told;
-    number_of(answer)
+    tell(check_file(bytes, given), place, image)
 }
 
 // The check of a slot, which is the boot check.
@@ -113,11 +121,5 @@ pub extern "C" fn thimmorel_check_slot(
         vendor,
         firmware,
     };
-    let answer = check_slot(bytes, given);
-    let at = where_words(answer);
-    *place = at;
-    let old = *image;
-    let told = image_words(answer, old);
-    *image = told;
-    number_of(answer)
+    tell(check_slot(bytes, given), place, image)
 }

@@ -2,6 +2,8 @@
 //
 // An exported function is thin. It calls the proved library and carries the same promise.
 mod check;
+mod digests;
+mod parts;
 
 ghost use mathlib.Core.Path.{_≡_};
 ghost use Rattle.blake2s.specs.Rfc7693.{blake2sOf};

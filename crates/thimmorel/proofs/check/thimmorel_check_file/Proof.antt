@@ -1,4 +1,3 @@
--- `thimmorel::check::thimmorel_check_file` meets its contract: by what the calls ensure, in each case of the answer.
 use borrow.Author.Needs.{needs}
 use Rattle.thimmorel.proofs.check.thimmorel_check_file.Statement.{statement}
 use Rattle.thimmorel.proofs.check.thimmorel_check_file.Tie as tie
@@ -7,8 +6,6 @@ pub thimmorel-check-file-spec : {M : Type 1} → statement M
 thimmorel-check-file-spec =
     tie.close
     (tie.spec
-    (λ c κs. search needs)
-    (λ c κs. search needs)
     (λ c κs. search needs)
     (λ c κs. search needs)
     (λ c. ((cc), ((cc), (cc)))))

@@ -1,0 +1,12 @@
+use borrow.Author.Needs.{needs}
+use Rattle.thimmorel.proofs.digests.outcome_where.Statement.{statement}
+use Rattle.thimmorel.proofs.digests.outcome_where.Tie as tie
+
+pub outcome-where-spec : {M : Type 1} → statement M
+outcome-where-spec =
+    tie.close
+    (tie.spec
+    (λ c. search needs)
+    (λ c. search needs)
+    (λ c. search needs)
+    (λ c. cc))

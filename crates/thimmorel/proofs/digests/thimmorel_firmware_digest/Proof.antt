@@ -1,0 +1,11 @@
+use borrow.Author.Needs.{needs}
+use Rattle.thimmorel.proofs.digests.thimmorel_firmware_digest.Statement.{statement}
+use Rattle.thimmorel.proofs.digests.thimmorel_firmware_digest.Tie as tie
+
+pub thimmorel-firmware-digest-spec : {M : Type 1} → statement M
+thimmorel-firmware-digest-spec =
+    tie.close
+    (tie.spec
+    (λ c κs. search needs)
+    (λ c κs. search needs)
+    (λ c. ((cc), ((cc), (cc)))))
