@@ -21,9 +21,9 @@ use Rattle.image.specs.Answer.{imageOf}
 use Rattle.image.specs.Check.{checkRows, checkSlot}
 use Rattle.image.specs.Theorems.{ErasedWordRefused, AcceptedBeforeErased}
 use Rattle.image.specs.declared.Answer.the-variants.{Accepted}
-use Rattle.image.proofs.Facts.{RowsPass, sound, file-rows-pass, file-told, file-length, slot-accepted}
-use Rattle.header.proofs.WordApart.{starts-within}
+use Rattle.image.proofs.Facts.{RowsPass, sound, file-rows-pass, file-told, file-length, rows-accepted}
 use Rattle.image.proofs.Alike.{extent-rows-alike, hash-rows-alike, image-of-alike}
+use Rattle.header.proofs.WordApart.{starts-within}
 
 -- 255 is not the magic's first letter
 pub erased-magic-missing : (b : List ℕ) → take 4 b ≡ replicate 4 255 → vendorMagicMissing b ≡ true
@@ -56,7 +56,7 @@ module _ (file : List ℕ) (given : Inputs) (p : RowsPass (vendorMagicMissing fi
   w = start-alike file (replicate n 255)
 
   whole : length file ≡ imageLen file
-  whole = file-length file given p
+  whole = file-length (vendorMagicMissing file) file given p
 
   least : 512 ≤ vendorLen file
   least = sound p .vendor .size .least
@@ -91,7 +91,8 @@ module _ (file : List ℕ) (given : Inputs) (p : RowsPass (vendorMagicMissing fi
       }
 
   slot-stays : checkSlot slot given ≡ Accepted (imageOf file)
-  slot-stays = slot-accepted slot given slot-rows-pass ∙ ap Accepted (image-of-alike w read least)
+  unfolding checkSlot
+  slot-stays = rows-accepted slot-rows-pass ∙ ap Accepted (image-of-alike w read least)
 
 pub accepted-before-erased : AcceptedBeforeErased
 accepted-before-erased file n given i h =

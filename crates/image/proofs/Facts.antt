@@ -1,7 +1,7 @@
 -- What an acceptance says: each group of rows passes, the hashes are the chunks', and the image is the bytes'; and the other way round.
 -- Assumes nothing.
-use Prim.Native.Nat.{ℕ, _≤_}
-use mathlib.Core.Path.{_≡_, refl, sym, ap, _∙_}
+use Prim.Native.Nat.{ℕ, _+_, _≤_}
+use mathlib.Core.Path.{_≡_, refl, sym, ap, ap₂, _∙_}
 use mathlib.Core.List.{List}
 use mathlib.Core.Bool.{Bool, true, not}
 use native.Mathlib.Omega.{arith}
@@ -19,9 +19,11 @@ use Rattle.header.specs.declared.Outcome.the-variants.{Pass, Refused}
 use Rattle.header.proofs.Rows.{passes-here, ends, stage-first, stage-then, stage-passes}
 use Rattle.header.proofs.Facts.{VendorShaped, FirmwareShaped, headers-pass, vendor-shaped, firmware-shaped, extent-passes}
 use Rattle.image.specs.Chunks.{hashesOf, hashTable, codeOf, hashRows}
-use Rattle.image.specs.Answer.{imageOf, answerOf}
-use Rattle.image.specs.Check.{checkRows, checkFile, checkSlot}
+use Rattle.image.specs.Answer.{versionAt, imageOf, answerOf}
+use Rattle.image.specs.Check.{checkRows, checkFile}
+use Rattle.image.specs.declared.Version.{Version}
 use Rattle.image.specs.declared.Image.{Image}
+use Rattle.image.specs.declared.Answer.{Answer}
 use Rattle.image.specs.declared.Answer.the-variants.{Accepted, Rejected}
 use Rattle.image.proofs.Hashes.{hashes-pass, hashes-right}
 
@@ -32,6 +34,18 @@ rejected i h = sym (rw h)
 
 pub accepted : {o : Outcome} {i j : Image} → o ≡ Pass → i ≡ j → Accepted i ≡ answerOf o j
 accepted h g = ap Accepted g ∙ sym (rw h)
+
+-- by what the calls promise: x and y are the tests of S1 and S22, o the outcome of the rows
+pub answered : {x y f g : Bool} {o : Outcome} {a : Answer} (b : List ℕ) (given : Inputs) → x ≡ f → y ≡ g → o ≡ firstFailing (checkRows x y b given) → a ≡ answerOf o (imageOf b)
+    → a ≡ answerOf (firstFailing (checkRows f g b given)) (imageOf b)
+answered b given e h i j =
+    j ∙ ap (λ (o : Outcome). answerOf o (imageOf b)) (i ∙ ap₂ (λ (x y : Bool). firstFailing (checkRows x y b given)) e h)
+
+-- the image told, field by field
+pub image-told : {v codelen : ℕ} {version fix : Version} (b : List ℕ) → v ≡ vendorLen b → codelen ≡ codeLen b → version ≡ versionAt b (v + 16) → fix ≡ versionAt b (v + 20)
+    → record { v = v; codelen = codelen; version = version; fix = fix } ≡ imageOf b
+unfolding imageOf
+image-told b e f g h = rw (g, h, e, f)
 
 -- an acceptance: the outcome is Pass, and the image is the one told
 pub passed : (o : Outcome) (i j : Image) → answerOf o i ≡ Accepted j → o ≡ Pass
@@ -59,9 +73,7 @@ pub all-groups-pass : {magicMissing tailWrong : Bool} {b : List ℕ} {given : In
 unfolding checkRows
 all-groups-pass p = sym (stage-passes _ _ (sym (p .headers)) refl (stage-passes _ _ (sym (p .extent)) refl (sym (p .hashes))))
 
--- ---- an accepted file, an accepted slot
-
--- what both tell of the bytes
+-- what they then tell of the bytes
 pub record Sound (b : List ℕ) : Type 0 where
   pub vendor : VendorShaped b
   pub firmware : FirmwareShaped b
@@ -78,10 +90,21 @@ sound {magicMissing} {tailWrong} {b} {given} p =
       hashes = hashes-right b (p .hashes);
     }
 
--- the file check accepts exactly where all rows pass, and tells the image
+-- ---- an answer of all rows
+
+-- a check accepts exactly where all rows pass, and tells the image
+pub accepted-rows : (magicMissing tailWrong : Bool) (b : List ℕ) (given : Inputs) (i : Image) → answerOf (firstFailing (checkRows magicMissing tailWrong b given)) (imageOf b) ≡ Accepted i
+    → RowsPass magicMissing tailWrong b given
+accepted-rows magicMissing tailWrong b given i h = each-group-passes (passed _ (imageOf b) i h)
+
+pub rows-accepted : {magicMissing tailWrong : Bool} {b : List ℕ} {given : Inputs} → RowsPass magicMissing tailWrong b given
+    → answerOf (firstFailing (checkRows magicMissing tailWrong b given)) (imageOf b) ≡ Accepted (imageOf b)
+rows-accepted p = sym (accepted (all-groups-pass p) refl)
+
+-- the check of a file
 pub file-rows-pass : (b : List ℕ) (given : Inputs) (i : Image) → checkFile b given ≡ Accepted i → RowsPass (vendorMagicMissing b) (bytesFollow b) b given
 unfolding checkFile
-file-rows-pass b given i h = each-group-passes (passed _ (imageOf b) i h)
+file-rows-pass b given i h = accepted-rows (vendorMagicMissing b) (bytesFollow b) b given i h
 
 pub file-told : (b : List ℕ) (given : Inputs) (i : Image) → checkFile b given ≡ Accepted i → imageOf b ≡ i
 unfolding checkFile
@@ -89,20 +112,7 @@ file-told b given i h = told (firstFailing (checkRows (vendorMagicMissing b) (by
 
 pub file-accepted : (b : List ℕ) (given : Inputs) → RowsPass (vendorMagicMissing b) (bytesFollow b) b given → checkFile b given ≡ Accepted (imageOf b)
 unfolding checkFile
-file-accepted b given p = sym (accepted (all-groups-pass p) refl)
-
--- the slot check likewise
-pub slot-rows-pass : (b : List ℕ) (given : Inputs) (i : Image) → checkSlot b given ≡ Accepted i → RowsPass (vendorMagicMissing b) (tailNotErased b) b given
-unfolding checkSlot
-slot-rows-pass b given i h = each-group-passes (passed _ (imageOf b) i h)
-
-pub slot-told : (b : List ℕ) (given : Inputs) (i : Image) → checkSlot b given ≡ Accepted i → imageOf b ≡ i
-unfolding checkSlot
-slot-told b given i h = told (firstFailing (checkRows (vendorMagicMissing b) (tailNotErased b) b given)) (imageOf b) i h
-
-pub slot-accepted : (b : List ℕ) (given : Inputs) → RowsPass (vendorMagicMissing b) (tailNotErased b) b given → checkSlot b given ≡ Accepted (imageOf b)
-unfolding checkSlot
-slot-accepted b given p = sym (accepted (all-groups-pass p) refl)
+file-accepted b given p = rows-accepted p
 
 -- ---- the extent
 
@@ -112,9 +122,9 @@ unfolding extentRows codeCut bytesFollow
 file-extent-passes b e =
     sym (passes-here _ _ (le-ltb (length b) (imageLen b) (omega arith)) (passes-here _ _ (le-ltb (imageLen b) (length b) (omega arith)) ends))
 
-pub file-length : (b : List ℕ) (given : Inputs) → RowsPass (vendorMagicMissing b) (bytesFollow b) b given → length b ≡ imageLen b
+pub file-length : (magicMissing : Bool) (b : List ℕ) (given : Inputs) → RowsPass magicMissing (bytesFollow b) b given → length b ≡ imageLen b
 unfolding bytesFollow
-file-length b given p =
+file-length magicMissing b given p =
     let e = extent-passes (bytesFollow b) b (p .extent) in
     let l = e .held in
     let m : length b ≤ imageLen b = ltb-false (imageLen b) (length b) (e .tail) in
@@ -125,9 +135,9 @@ pub slot-extent-passes : (b : List ℕ) → imageLen b ≤ length b → allAre 2
 unfolding extentRows codeCut tailNotErased
 slot-extent-passes b h e = sym (passes-here _ _ (le-ltb (length b) (imageLen b) h) (passes-here _ _ (ap not e) ends))
 
-pub slot-tail-erased : (b : List ℕ) (given : Inputs) → RowsPass (vendorMagicMissing b) (tailNotErased b) b given → allAre 255 (drop (imageLen b) b) ≡ true
+pub slot-tail-erased : (magicMissing : Bool) (b : List ℕ) (given : Inputs) → RowsPass magicMissing (tailNotErased b) b given → allAre 255 (drop (imageLen b) b) ≡ true
 unfolding tailNotErased
-slot-tail-erased b given p = not-false _ (extent-passes (tailNotErased b) b (p .extent) .tail)
+slot-tail-erased magicMissing b given p = not-false _ (extent-passes (tailNotErased b) b (p .extent) .tail)
 
 -- ---- a file that is accepted, by its headers, its length and its hashes
 

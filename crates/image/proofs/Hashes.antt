@@ -3,7 +3,7 @@
 use mathlib.Core.Path.{_≡_, refl, sym, ap, ap₂, _∙_}
 use mathlib.Core.Logic.{⊎-elim}
 use mathlib.Core.List.{List, [], _∷_}
-use mathlib.Core.Bool.{Bool, true, false, not}
+use mathlib.Core.Bool.{Bool, true, false}
 use Prim.Native.Nat.{ℕ, zero, suc, _+_, _-_, _*_, _≤_, _<_, min}
 use native.Mathlib.Numerals.{add-one}
 use native.Mathlib.Omega.{arith}
@@ -39,7 +39,7 @@ pub start-more : (first k : ℕ) → chunkStart first k + roomOf first k ≡ chu
 unfolding chunkStart
 start-more first k = rw (add-one k)
 
--- the first chunk is short by as much as the others' starts are shifted
+-- behind the first chunk's room and k full ones
 pub start-is : (first k : ℕ) → chunkStart first (suc k) ≡ first + 131072 * k
 unfolding chunkStart
 start-is first zero = omega arith
@@ -165,12 +165,12 @@ wrong-used [] k e = absurd (e refl)
 wrong-used (x ∷ bytes) k e = refl
 
 -- d is the hash that the function made, x its test
-pub row-failed : {d : List ℕ} {x : Bool} {r : Refusal} (k : ℕ) (bytes hash : List ℕ) → d ≡ hashOf bytes → x ≡ same d hash → not x ≡ true → r ≡ wrongHash bytes k
+pub row-failed : {d : List ℕ} {x : Bool} {r : Refusal} (k : ℕ) (bytes hash : List ℕ) → d ≡ hashOf bytes → x ≡ same d hash → x ≡ false → r ≡ wrongHash bytes k
     → Refused r ≡ firstFailing (chunkRow k bytes hash ∷ [])
 unfolding chunkRow firstFailing
 row-failed k bytes hash e f g h = rw (← e, ← f, g) (ap Refused h)
 
-pub row-passed : {d : List ℕ} {x : Bool} (k : ℕ) (bytes hash : List ℕ) → d ≡ hashOf bytes → x ≡ same d hash → not x ≡ false → Pass ≡ firstFailing (chunkRow k bytes hash ∷ [])
+pub row-passed : {d : List ℕ} {x : Bool} (k : ℕ) (bytes hash : List ℕ) → d ≡ hashOf bytes → x ≡ same d hash → x ≡ true → Pass ≡ firstFailing (chunkRow k bytes hash ∷ [])
 unfolding chunkRow firstFailing
 row-passed k bytes hash e f g = rw (← e, ← f, g)
 

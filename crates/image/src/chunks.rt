@@ -65,10 +65,10 @@ fn chunk_row(k: u32, bytes: &[u8], hash: [u8; 32]) -> Outcome
     ensures { λ r. ⌜ r ≡ firstFailing (chunkRow k (now (bytes .entry)) hash ∷ []) ⌝ }
 {
     let right = hash_of(bytes);
-    if !same_digest(right, hash) {
-        return Outcome::Refused(wrong_hash(bytes, k));
+    if same_digest(right, hash) {
+        return Outcome::Pass;
     }
-    Outcome::Pass
+    Outcome::Refused(wrong_hash(bytes, k))
 }
 
 // S23.

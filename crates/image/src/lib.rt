@@ -2,7 +2,8 @@
 // back.
 //
 // Any bytes, any inputs: an answer, and nothing is written. Nothing of the image is copied but its
-// table of sixteen hashes. The check of a slot is the boot check.
+// table of sixteen hashes and the last, partial block of a chunk. The check of a slot is the boot
+// check.
 pub mod chunks;
 pub mod theorems;
 
@@ -91,12 +92,12 @@ fn check_rows(magic_missing: bool, tail_wrong: bool, b: &[u8], given: Inputs) ->
     ensures { λ r. ⌜ r ≡ firstFailing (checkRows «magic_missing» «tail_wrong» (now (b .entry)) given) ⌝ }
 {
     let headers = header_rows(magic_missing, b, given);
-    if let Outcome::Refused(r) = headers {
-        return Outcome::Refused(r);
+    if let Outcome::Refused(in_headers) = headers {
+        return Outcome::Refused(in_headers);
     }
     let extent = extent_rows(tail_wrong, b);
-    if let Outcome::Refused(r) = extent {
-        return Outcome::Refused(r);
+    if let Outcome::Refused(in_extent) = extent {
+        return Outcome::Refused(in_extent);
     }
     hash_rows(b)
 }

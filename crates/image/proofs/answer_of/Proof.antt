@@ -11,5 +11,5 @@ answer-of-spec =
     (λ c. search needs)
     (λ c. search needs)
     (λ c κs. search needs)
-    (λ c. search (rejected, accepted))
-    (λ c. search (rejected, accepted)))
+    (λ c. search (rejected))
+    (λ c. search (accepted)))

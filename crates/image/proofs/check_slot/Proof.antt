@@ -1,4 +1,5 @@
 -- `image::check_slot` meets its contract: S1, S22, the rows and the answer are what the calls promise.
+use Rattle.image.proofs.Facts.{answered}
 use borrow.Author.Needs.{needs}
 use Rattle.image.specs.Check.{checkSlot}
 use Rattle.image.proofs.check_slot.Statement.{statement}
@@ -13,4 +14,4 @@ check-slot-spec =
     (λ c κs. search needs)
     (λ c κs. search needs)
     (λ c κs. search needs)
-    (λ c. cc))
+    (λ c. search (answered)))

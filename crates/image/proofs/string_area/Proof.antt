@@ -1,4 +1,9 @@
 -- `image::string_area` meets its contract: `part` promises the bytes between two places, and the calls those places.
+use denote.Ref.{now}
+use mathlib.Core.Path.{ap, ap₂, _∙_}
+use Prim.Native.Nat.{ℕ}
+use Rattle.field.specs.Field.{between}
+use Rattle.header.specs.Layout.{stringStart, stringEnd}
 use borrow.Author.Needs.{needs}
 use Rattle.image.proofs.string_area.Statement.{statement}
 use Rattle.image.proofs.string_area.Tie as tie
@@ -12,4 +17,11 @@ string-area-spec =
     (λ c κs. search needs)
     (λ c κs. search needs)
     (λ c κs. search needs)
-    (λ c. cc))
+    (λ c.
+    let s = c .before .before .before .before in
+    let b = now (s .before .before .args .b) in
+    c .part .ensures
+    ∙ ap₂
+    (λ (x y : ℕ). between x y b)
+    (c .before .before .before .string-start .ensures ∙ ap stringStart (s .key-count .ensures))
+    (c .before .string-end .ensures ∙ ap₂ stringEnd (s .key-count .ensures) (c .before .before .string-len .ensures))))
