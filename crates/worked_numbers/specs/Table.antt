@@ -3,11 +3,12 @@
 use Prim.Native.Nat.{ℕ, _+_, _-_, _*_}
 use mathlib.Core.Path.{_≡_}
 use mathlib.Core.List.{List, [], _∷_, _++_}
-use mathlib.Core.Bool.{true}
+use mathlib.Core.Bool.{true, false}
 use lib.ListN.{replicate}
 use Rattle.header.specs.Layout.{TRZV, pictureStart, maskAt, firstRoom}
 use Rattle.header.specs.Table.{firstFailing, vendorShape, vendorPolicy}
 use Rattle.header.specs.Trust.{trustOf}
+use Rattle.installer.specs.Run.{History, made}
 use Rattle.header.specs.declared.Inputs.{Inputs}
 use Rattle.header.specs.declared.Outcome.{Outcome}
 use Rattle.header.specs.declared.Outcome.the-variants.{Pass, Refused}
@@ -56,6 +57,10 @@ shapeOf n s = number (firstFailing (vendorShape (vendor n s 0 0)))
 abbrev pub policyOf : ℕ → ℕ → ℕ → ℕ
 policyOf expiry mask time = number (firstFailing (vendorPolicy (vendor 2 4 expiry mask) (at time)))
 
+-- a session that was closed with Done: 16 Erase calls, and a file of 1,540 bytes
+abbrev pub installed : History
+installed = record { isOpen = false; erases = 16; given = replicate 1540 0; touched = true; done = true }
+
 abbrev pub workedNumbers : List Worked
 workedNumbers =
     -- P1, P2: where the picture starts
@@ -81,6 +86,8 @@ workedNumbers =
     ∷ (trustOf 0xFFF6 .seconds gives 9)
     ∷ (trustOf 0xFFFF .seconds gives 0)
     ∷ (trustOf 0x0000 .seconds gives 15)
+    -- P12: the operations of a whole install, as the calls made them
+    ∷ (made 65536 installed gives 401)
     ∷ []
 
 abbrev pub WorkedNumbersHold : Type 0

@@ -1,0 +1,23 @@
+-- The flash (01, "The flash and the installer"): erased bytes, one page erased, one word stored. A page has 4,096 bytes and a word 4.
+-- Assumes nothing.
+use Prim.Native.Nat.{ℕ, _+_, _*_}
+use mathlib.Core.List.{List, _++_}
+use mathlib.Core.Bool.{Bool, _&&_}
+use lib.ListN.{take, drop, getD, replicate}
+use lib.Dec.{eqb}
+
+-- n erased bytes
+unfoldable pub erasedBytes : ℕ → List ℕ
+erasedBytes n = replicate n 255
+
+-- the slot with page p erased
+abbrev pub pageErased : ℕ → List ℕ → List ℕ
+pageErased p slot = take (p * 4096) slot ++ (erasedBytes 4096 ++ drop (p * 4096 + 4096) slot)
+
+-- the slot with the word w stored at an offset
+abbrev pub wordStored : ℕ → List ℕ → List ℕ → List ℕ
+wordStored at w slot = take at slot ++ (w ++ drop (at + 4) slot)
+
+-- the first word of these bytes is erased
+abbrev pub startsErased : List ℕ → Bool
+startsErased b = eqb (getD b 0 0) 255 && (eqb (getD b 1 0) 255 && (eqb (getD b 2 0) 255 && eqb (getD b 3 0) 255))

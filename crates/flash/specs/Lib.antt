@@ -1,0 +1,2 @@
+-- What the contracts of flash cite.
+pub mod Flash

@@ -1,0 +1,137 @@
+-- What a session's tests say of its numbers: each conjunction is taken apart once, into a record of facts.
+-- Assumes nothing.
+use mathlib.Core.Path.{_≡_, refl}
+use mathlib.Core.Bool.{Bool, true, false, not, _&&_, _||_, and-false, false≢true}
+use mathlib.Core.Logic.{_⊎_, inl, inr, ⊎-elim}
+use mathlib.Core.List.{List, [], _∷_}
+use Prim.Native.Nat.{ℕ, _+_, _%_, _≤_}
+use lib.Dec.{eqb, leb}
+use borrow.Author.Tests.{eqb-true, leb-true, eq-eqb, le-leb, not-true, not-false}
+use Rattle.field.specs.Rounding.{multipleOf}
+use Rattle.field.proofs.Laws.{and-left, and-right}
+use Rattle.installer.specs.Record.{slotLenRight, fileLenRight, pagesOf, wordsStored, sound, full}
+use Rattle.installer.specs.declared.Session.{Session}
+
+-- the record is that of an open session on a slot of n bytes, and its numbers can be
+pub record Sound (s : Session) (n : ℕ) : Type 0 where
+  pub pages : s .pages ≤ pagesOf n
+  pub live : s .live ≡ true
+  pub slot : s .slot ≡ n
+  pub slotWhole : n % 4096 ≡ 0
+  pub slotLeast : 4096 ≤ n
+  pub slotMost : n ≤ 2097152
+  pub fileWhole : s .file % 4 ≡ 0
+  pub fileLeast : 1540 ≤ s .file
+  pub fileMost : s .file ≤ n
+  pub phase : (s .pages ≡ pagesOf n) ⊎ (s .taken ≡ 0)
+  pub taken : s .taken ≤ s .file
+  pub operations : s .operations ≡ s .pages + wordsStored (s .taken)
+
+-- ---- a conjunction as the list of its tests
+
+abbrev every : List Bool → Bool
+every [] = true
+every (b ∷ []) = b
+every (b ∷ c ∷ bs) = b && every (c ∷ bs)
+
+abbrev Each : List Bool → Type 0
+Each [] = Unit {0}
+Each (b ∷ bs) = (b ≡ true) × Each bs
+
+each : (bs : List Bool) → every bs ≡ true → Each bs
+each [] e = tt
+each (b ∷ []) e = (e, tt)
+each (b ∷ c ∷ bs) e = (and-left b (every (c ∷ bs)) e, each (c ∷ bs) (and-right b (every (c ∷ bs)) e))
+
+every-of : (bs : List Bool) → Each bs → every bs ≡ true
+every-of [] h = refl
+every-of (b ∷ []) h = h .0
+every-of (b ∷ c ∷ bs) h = rw (h .0) (every-of (c ∷ bs) (h .1))
+
+or-cases : (a b : Bool) → (a || b) ≡ true → (a ≡ true) ⊎ (b ≡ true)
+or-cases true b e = inl refl
+or-cases false b e = inr e
+
+either : (a b : Bool) → (a ≡ true) ⊎ (b ≡ true) → (a || b) ≡ true
+either true b h = refl
+either false b (inl p) = absurd (false≢true p)
+either false b (inr p) = p
+
+-- ---- the tests of `sound`
+
+abbrev slotTests : ℕ → List Bool
+slotTests n = multipleOf 4096 n ∷ leb 4096 n ∷ leb n 2097152 ∷ []
+
+abbrev fileTests : ℕ → ℕ → List Bool
+fileTests n f = multipleOf 4 f ∷ leb 1540 f ∷ leb f n ∷ []
+
+abbrev phaseTest : Session → ℕ → Bool
+phaseTest s n = eqb (s .pages) (pagesOf n) || eqb (s .taken) 0
+
+abbrev soundTests : Session → ℕ → List Bool
+soundTests s n =
+    leb (s .pages) (pagesOf n)
+    ∷ s .live
+    ∷ eqb (s .slot) n
+    ∷ slotLenRight n
+    ∷ fileLenRight n (s .file)
+    ∷ phaseTest s n
+    ∷ leb (s .taken) (s .file)
+    ∷ eqb (s .operations) (s .pages + wordsStored (s .taken))
+    ∷ []
+
+pub sound-facts : (s : Session) (n : ℕ) → sound s n ≡ true → Sound s n
+unfolding sound slotLenRight fileLenRight
+sound-facts s n e =
+    let h : Each (soundTests s n) = each (soundTests s n) e in
+    let slot : Each (slotTests n) = each (slotTests n) (h .1 .1 .1 .0) in
+    let file : Each (fileTests n (s .file)) = each (fileTests n (s .file)) (h .1 .1 .1 .1 .0) in
+    record {
+      pages = leb-true _ _ (h .0);
+      live = h .1 .0;
+      slot = eqb-true _ _ (h .1 .1 .0);
+      slotWhole = eqb-true _ _ (slot .0);
+      slotLeast = leb-true _ _ (slot .1 .0);
+      slotMost = leb-true _ _ (slot .1 .1 .0);
+      fileWhole = eqb-true _ _ (file .0);
+      fileLeast = leb-true _ _ (file .1 .0);
+      fileMost = leb-true _ _ (file .1 .1 .0);
+      phase = ⊎-elim (λ p. inl (eqb-true _ _ p)) (λ p. inr (eqb-true _ _ p)) (or-cases (eqb (s .pages) (pagesOf n)) (eqb (s .taken) 0) (h .1 .1 .1 .1 .1 .0));
+      taken = leb-true _ _ (h .1 .1 .1 .1 .1 .1 .0);
+      operations = eqb-true _ _ (h .1 .1 .1 .1 .1 .1 .1 .0);
+    }
+
+pub sound-test : (s : Session) (n : ℕ) → Sound s n → sound s n ≡ true
+unfolding sound slotLenRight fileLenRight
+sound-test s n f =
+    let slot : every (slotTests n) ≡ true = every-of (slotTests n) (eq-eqb _ _ (f .slotWhole), (le-leb _ _ (f .slotLeast), (le-leb _ _ (f .slotMost), tt))) in
+    let file : every (fileTests n (s .file)) ≡ true =
+    every-of (fileTests n (s .file)) (eq-eqb _ _ (f .fileWhole), (le-leb _ _ (f .fileLeast), (le-leb _ _ (f .fileMost), tt))) in
+    let phase : phaseTest s n ≡ true =
+    either (eqb (s .pages) (pagesOf n)) (eqb (s .taken) 0) (⊎-elim (λ p. inl (eq-eqb _ _ p)) (λ p. inr (eq-eqb _ _ p)) (f .phase)) in
+    let last : Each (leb (s .taken) (s .file) ∷ eqb (s .operations) (s .pages + wordsStored (s .taken)) ∷ []) = (le-leb _ _ (f .taken), (eq-eqb _ _ (f .operations), tt)) in
+    every-of (soundTests s n) (le-leb _ _ (f .pages), (f .live, (eq-eqb _ _ (f .slot), (slot, (file, (phase, last))))))
+
+-- a session that is over is not sound
+pub over-not-sound : (s : Session) (n : ℕ) → s .live ≡ false → sound s n ≡ false
+unfolding sound
+over-not-sound s n e = rw e (and-false (leb (s .pages) (pagesOf n)))
+
+-- ---- what a call's test says, which the code makes of the result r of `sound` and a test t of its own
+
+pub passed : (s : Session) (n : ℕ) (r t : Bool) → r ≡ sound s n → not (r && t) ≡ false → Sound s n × (t ≡ true) × ((sound s n && t) ≡ true)
+passed s n r t e p =
+    let q : (sound s n && t) ≡ true = rw (← e) (not-false (r && t) p) in
+    (sound-facts s n (and-left (sound s n) t q), and-right (sound s n) t q, q)
+
+pub barred : (s : Session) (n : ℕ) (r t : Bool) → r ≡ sound s n → not (r && t) ≡ true → (sound s n && t) ≡ false
+barred s n r t e p = rw (← e) (not-true (r && t) p)
+
+-- all pages are erased and all bytes taken, by the result r of `full`
+pub passed-full : (s : Session) (n : ℕ) (r : Bool) → r ≡ full s n → not r ≡ false → Sound s n × (full s n ≡ true)
+passed-full s n r e p =
+    let q : full s n ≡ true = rw (← e) (not-false r p) in
+    (sound-facts s n (and-left (sound s n) (eqb (s .pages) (pagesOf n) && eqb (s .taken) (s .file)) q), q)
+
+pub barred-full : (s : Session) (n : ℕ) (r : Bool) → r ≡ full s n → not r ≡ true → full s n ≡ false
+barred-full s n r e p = rw (← e) (not-true r p)

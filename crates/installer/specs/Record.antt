@@ -1,0 +1,71 @@
+-- The session's record, and when its numbers can be (01, the paragraph on 19).
+-- Assumes nothing.
+use Prim.Native.Nat.{ℕ, _+_, _-_, _/_}
+use mathlib.Core.List.{List, [], _∷_}
+use mathlib.Core.Bool.{Bool, false, _&&_, _||_}
+use lib.Dec.{eqb, leb}
+use Rattle.field.specs.Rounding.{multipleOf}
+use Rattle.installer.specs.declared.Session.{Session}
+
+-- a slot's length that begin takes: a multiple of 4,096, from 4,096 to 2,097,152
+unfoldable pub slotLenRight : ℕ → Bool
+slotLenRight n = multipleOf 4096 n && (leb 4096 n && leb n 2097152)
+
+-- a file's length that begin takes for a slot of n bytes: a multiple of 4, from 1,540 to the slot's
+unfoldable pub fileLenRight : ℕ → ℕ → Bool
+fileLenRight n f = multipleOf 4 f && (leb 1540 f && leb f n)
+
+abbrev pub pagesOf : ℕ → ℕ
+pagesOf n = n / 4096
+
+-- words stored of the first t bytes of a file: word 0 is not among them
+abbrev pub wordsStored : ℕ → ℕ
+wordsStored t = t / 4 - 1
+
+-- the record is that of an open session on a slot of n bytes, and its numbers can be
+unfoldable pub sound : Session → ℕ → Bool
+sound s n =
+    leb (s .pages) (pagesOf n)
+    && (s .live
+    && (eqb (s .slot) n
+    && (slotLenRight n
+    && (fileLenRight n (s .file)
+    && ((eqb (s .pages) (pagesOf n) || eqb (s .taken) 0)
+    && (leb (s .taken) (s .file)
+    && eqb (s .operations) (s .pages + wordsStored (s .taken))))))))
+
+-- some pages are not erased yet
+abbrev pub erasing : Session → ℕ → Bool
+erasing s n = sound s n && leb (s .pages + 1) (pagesOf n)
+
+-- all pages are erased
+abbrev pub filling : Session → ℕ → Bool
+filling s n = sound s n && eqb (s .pages) (pagesOf n)
+
+-- all pages are erased and all bytes taken
+abbrev pub full : Session → ℕ → Bool
+full s n = sound s n && (eqb (s .pages) (pagesOf n) && eqb (s .taken) (s .file))
+
+-- ---- records
+
+abbrev pub noWord : List ℕ
+noWord = 0 ∷ 0 ∷ 0 ∷ 0 ∷ []
+
+-- a record with no page erased and no byte taken
+abbrev pub newRecord : Bool → ℕ → ℕ → Session
+newRecord live n f = record { live = live; slot = n; file = f; pages = 0; taken = 0; operations = 0; first = noWord; held = noWord }
+
+-- one page more is erased
+abbrev pub withPage : Session → Session
+withPage s =
+    record { live = s .live; slot = s .slot; file = s .file; pages = s .pages + 1; taken = s .taken; operations = s .operations + 1; first = s .first; held = s .held }
+
+-- k bytes more are taken, with the word in progress, the first word, and the words that were stored
+abbrev pub withBytes : Session → ℕ → List ℕ → List ℕ → ℕ → Session
+withBytes s k held first stored =
+    record { live = s .live; slot = s .slot; file = s .file; pages = s .pages; taken = s .taken + k; operations = s .operations + stored; first = first; held = held }
+
+-- the session is over, after so many operations
+abbrev pub over : Session → ℕ → Session
+over s operations =
+    record { live = false; slot = s .slot; file = s .file; pages = s .pages; taken = s .taken; operations = operations; first = s .first; held = s .held }
