@@ -3,6 +3,7 @@
 // Every reader is total: a byte past the end reads as 0, a part has as many bytes as there are, a
 // difference stops at 0. So no caller has to test a length first, and no public function has a
 // `requires`.
+pub mod put;
 pub mod theorems;
 
 ghost use mathlib.Core.Path.{_≡_};

@@ -1,0 +1,232 @@
+-- An accepted file, taken apart and written again, is the same bytes: field by field what stands from an offset on is the field as it is written and what stands behind it.
+-- Assumes nothing.
+use mathlib.Core.Path.{_≡_, refl, sym, ap, ap₂, _∙_}
+use mathlib.Core.List.{List, [], _∷_, _++_, append-assoc}
+use mathlib.Core.Bool.{true}
+use Prim.Native.Nat.{ℕ, _+_, _-_, _*_, _/_, _%_, _≤_, _<_}
+use native.Mathlib.Omega.{arith}
+use lib.ListN.{length, getD, drop, drop-of-length-le}
+use borrow.Author.Tests.{not-false, eq-eqb, le-ltb}
+use Rattle.field.specs.Field.{u32At, between, startsWith}
+use Rattle.field.specs.Put.{le16, le32, zeros}
+use Rattle.header.specs.Layout.{TRZV, TRZF, vendorLen, vendorExpiry, signersNeeded, keyCount, vtrust, stringLenAt, stringStart, stringLen, stringEnd, pictureStart, maskAt, vendorMask, firmwareExpiry, firmwareMask, codeLen, codeStart, imageLen, firstRoom}
+use Rattle.header.specs.Steps.{vendorMagicMissing, bytesFollow}
+use Rattle.header.specs.Table.{firstFailing}
+use Rattle.header.specs.declared.Inputs.{Inputs}
+use Rattle.header.specs.declared.Outcome.the-variants.{Pass}
+use Rattle.header.proofs.Rows.{passes-here, ends}
+use Rattle.header.proofs.Facts.{headers-pass, vendor-allowed, firmware-allowed}
+use Rattle.image.specs.Chunks.{hashesOf, hashesAt, hashTable, codeOf}
+use Rattle.image.specs.Answer.{versionAt}
+use Rattle.image.specs.Parts.{stringOf, pictureOf}
+use Rattle.image.specs.declared.Version.{Version}
+use Rattle.image.proofs.Facts.{Sound, RowsPass, sound, file-rows-pass, file-length, code-length, code-is-rest}
+use Rattle.writer.specs.Vendor.{vendorSize, vendorHead, vendorFront, vendorBack, vendorFields, vendorHeader, vendorRefusals}
+use Rattle.writer.specs.Firmware.{quad, joined, firmwareHead, firmwareFields, firmwareHeader, firmwareRefusals}
+use Rattle.writer.specs.Parts.{Parts, sizeOf, fileOf, Sized, Taken, WellFormed, partsOf}
+use Rattle.writer.specs.Theorems.{Rewritten, RewrittenImagesAreTheSame}
+use Rattle.writer.specs.declared.Vendor.{Vendor}
+use Rattle.writer.specs.declared.Firmware.{Firmware}
+use Rattle.writer.proofs.Fields.{on, split-magic, length-part, split-part, split-byte, split-zeros, split-word, split-half, word-small}
+use Rattle.writer.proofs.Joined.{joined-at}
+
+-- ---- the headers as their fields in a row
+
+-- where the picture fills its area
+vendor-row : (v s : ℕ) (f : Vendor) (keys string picture sig q : List ℕ) → length string ≡ s → pictureStart (f .n) s + length picture ≡ maskAt v
+    → vendorFields v f keys string picture sig ++ q
+    ≡ vendorHead f v ++ (keys ++ (s ∷ (string ++ (zeros (pictureStart (f .n) s - stringEnd (f .n) s) ++ (picture ++ (f .mask ∷ (sig ++ q)))))))
+unfolding vendorFields vendorFront vendorBack zeros
+vendor-row v s f keys string picture sig q e h =
+    let z : maskAt v - (pictureStart (f .n) s + length picture) ≡ 0 = omega arith in
+    rw (e, z) (simp append-assoc)
+
+firmware-row : (f : Firmware) (codelen : ℕ) (hashes : List (List ℕ)) (sig q : List ℕ)
+    → firmwareFields f codelen hashes sig ++ q
+    ≡ TRZF ++ (le32 1024 ++ (le32 (f .expiry) ++ (le32 codelen ++ (quad (f .version) ++ (quad (f .fix) ++ (zeros 8 ++ (joined hashes ++ (zeros 415 ++ (f .mask ∷ (sig ++ q))))))))))
+unfolding firmwareFields firmwareHead zeros
+firmware-row f codelen hashes sig q = simp append-assoc
+
+split-version : (b : List ℕ) (a e : ℕ) → e ≡ a + 4 → e ≤ length b → drop a b ≡ quad (versionAt b a) ++ drop e b
+split-version b a e h l =
+    split-byte b a (a + 1) refl (omega arith)
+    ∙ on (getD b a 0 ∷ []) (split-byte b (a + 1) (a + 2) (omega arith) (omega arith)
+    ∙ on (getD b (a + 1) 0 ∷ []) (split-byte b (a + 2) (a + 3) (omega arith) (omega arith)
+    ∙ on (getD b (a + 2) 0 ∷ []) (split-byte b (a + 3) e (omega arith) l)))
+
+rounded : (start v : ℕ) → start + 65 ≤ v → v % 512 ≡ 0 → (start + (maskAt v - start) + 65 + (512 - 1)) / 512 * 512 ≡ v
+rounded start v h e = omega arith
+
+past : (x y : ℕ) → x + y - x ≡ y
+past x y = omega arith
+
+-- ---- the file
+
+module _ (b : List ℕ) (bytes : (i : ℕ) → getD b i 0 < 256) (magic : startsWith TRZV b ≡ true) (k : Sound b) (size : length b ≡ imageLen b) where
+  abbrev v : ℕ
+  v = vendorLen b
+
+  abbrev n : ℕ
+  n = keyCount b
+
+  abbrev string : ℕ
+  string = stringLen b
+
+  abbrev vendorOf : Vendor
+  vendorOf = record { expiry = vendorExpiry b; major = getD b 12 0; minor = getD b 13 0; m = signersNeeded b; n = n; trust = vtrust b; mask = vendorMask b }
+
+  abbrev firmwareOf : Firmware
+  firmwareOf = record { expiry = firmwareExpiry b; version = versionAt b (v + 16); fix = versionAt b (v + 20); mask = firmwareMask b }
+
+  long : v + 1024 ≤ length b
+  long = omega (arith, size)
+
+  -- the string and the picture area have the lengths that the image says, so the header comes out as long
+  string-length : length (stringOf b) ≡ string
+  string-length = length-part b (stringStart n) (stringEnd n string) (omega (arith, long, k .vendor .room)) ∙ past (stringStart n) string
+
+  picture-length : length (pictureOf b) ≡ maskAt v - pictureStart n string
+  picture-length = length-part b (pictureStart n string) (maskAt v) (omega (arith, long))
+
+  same-size : vendorSize n (length (stringOf b)) (length (pictureOf b)) ≡ v
+  same-size = ap₂ (vendorSize n) string-length picture-length ∙ rounded (pictureStart n string) v (k .vendor .room) (k .vendor .size .whole)
+
+  -- the vendor header, field by field
+  head-apart : b ≡ vendorHead vendorOf v ++ drop 32 b
+  unfolding vendorHead zeros
+  head-apart =
+      split-magic TRZV b magic
+      ∙ on TRZV (split-word b bytes 4 8 refl (omega (arith, long))
+      ∙ on (le32 v) (split-word b bytes 8 12 refl (omega (arith, long))
+      ∙ on (le32 (vendorExpiry b)) (split-byte b 12 13 refl (omega (arith, long))
+      ∙ on (getD b 12 0 ∷ []) (split-byte b 13 14 refl (omega (arith, long))
+      ∙ on (getD b 13 0 ∷ []) (split-byte b 14 15 refl (omega (arith, long))
+      ∙ on (signersNeeded b ∷ []) (split-byte b 15 16 refl (omega (arith, long))
+      ∙ on (n ∷ []) (split-half b bytes 16 18 refl (omega (arith, long))
+      ∙ on (le16 (vtrust b)) (split-zeros b 18 32 14 refl (omega (arith, long)) (k .vendor .zeros)))))))))
+
+  body-apart : drop 32 b
+      ≡ between 32 (stringLenAt n) b ++ (string
+      ∷ (stringOf b
+      ++ (zeros (pictureStart n string - stringEnd n string)
+      ++ (pictureOf b
+      ++ (vendorMask b ∷ (between (v - 64) v b ++ drop v b))))))
+  body-apart =
+      split-part b 32 (stringLenAt n) (omega arith)
+      ∙ on (between 32 (stringLenAt n) b) (split-byte b (stringLenAt n) (stringStart n) refl (omega (arith, long, k .vendor .room))
+      ∙ on (string ∷ []) (split-part b (stringStart n) (stringEnd n string) (omega arith)
+      ∙ on (stringOf b) (split-zeros b (stringEnd n string) (pictureStart n string) (pictureStart n string - stringEnd n string) (omega arith) (omega (arith, long, k .vendor .room)) (k .vendor .padding)
+      ∙ on (zeros (pictureStart n string - stringEnd n string)) (split-part b (pictureStart n string) (maskAt v) (omega (arith, k .vendor .room))
+      ∙ on (pictureOf b) (split-byte b (maskAt v) (v - 64) (omega (arith, k .vendor .size .least)) (omega (arith, long))
+      ∙ on (vendorMask b ∷ []) (split-part b (v - 64) v (omega arith)))))))
+
+  vendor-again : vendorHeader vendorOf (between 32 (stringLenAt n) b) (stringOf b) (pictureOf b) (between (v - 64) v b) ++ drop v b ≡ b
+  vendor-again =
+      rw same-size
+      (vendor-row v string vendorOf _ (stringOf b) _ _ (drop v b) string-length (omega (arith, picture-length, k .vendor .room))
+      ∙ sym (head-apart ∙ on (vendorHead vendorOf v) body-apart))
+
+  -- the firmware header, field by field
+  magic-is : between v (v + 4) b ≡ TRZF
+  magic-is =
+      let l : length (between v (v + 4) b) ≡ v + 4 - v = length-part b v (v + 4) (omega (arith, long)) in
+      split-magic TRZF (between v (v + 4) b) (k .firmware .magic)
+      ∙ on TRZF (drop-of-length-le (between v (v + 4) b) {i = 4} (omega arith))
+
+  hashes-are : joined (hashesOf 16 (firstRoom v) (codeOf b)) ≡ between (v + 32) (v + 544) b
+  unfolding hashTable
+  hashes-are =
+      let e : v + 32 + 32 * 16 ≡ v + 544 = omega arith in
+      ap joined (sym (k .hashes))
+      ∙ joined-at 16 b (v + 32) (omega (arith, long))
+      ∙ ap (λ (i : ℕ). between (v + 32) i b) e
+
+  firmware-apart : drop v b
+      ≡ TRZF ++ (le32 1024 ++ (le32 (firmwareExpiry b) ++ (le32 (codeLen b)
+      ++ (quad (versionAt b (v + 16)) ++ (quad (versionAt b (v + 20))
+      ++ (zeros 8 ++ (between (v + 32) (v + 544) b ++ (zeros 415
+      ++ (firmwareMask b ∷ (between (v + 960) (v + 1024) b ++ codeOf b))))))))))
+  firmware-apart =
+      split-part b v (v + 4) (omega arith) ∙ ap (λ (l : List ℕ). l ++ drop (v + 4) b) magic-is
+      ∙ on TRZF (split-word b bytes (v + 4) (v + 8) (omega arith) (omega (arith, long)) ∙ ap (λ (x : ℕ). le32 x ++ drop (v + 8) b) (k .firmware .size)
+      ∙ on (le32 1024) (split-word b bytes (v + 8) (v + 12) (omega arith) (omega (arith, long))
+      ∙ on (le32 (firmwareExpiry b)) (split-word b bytes (v + 12) (v + 16) (omega arith) (omega (arith, long))
+      ∙ on (le32 (codeLen b)) (split-version b (v + 16) (v + 20) (omega arith) (omega (arith, long))
+      ∙ on (quad (versionAt b (v + 16))) (split-version b (v + 20) (v + 24) (omega arith) (omega (arith, long))
+      ∙ on (quad (versionAt b (v + 20))) (split-zeros b (v + 24) (v + 32) 8 (omega arith) (omega (arith, long)) (k .firmware .zeros)
+      ∙ on (zeros 8) (split-part b (v + 32) (v + 544) (omega arith)
+      ∙ on (between (v + 32) (v + 544) b) (split-zeros b (v + 544) (v + 959) 415 (omega arith) (omega (arith, long)) (k .firmware .gap)
+      ∙ on (zeros 415) (split-byte b (v + 959) (v + 960) (omega arith) (omega (arith, long))
+      ∙ on (firmwareMask b ∷ []) (split-part b (v + 960) (v + 1024) (omega arith)
+      ∙ on (between (v + 960) (v + 1024) b) (sym (code-is-rest b size))))))))))))
+
+  firmware-again : firmwareHeader v firmwareOf (codeOf b) (between (v + 960) (v + 1024) b) ++ codeOf b ≡ drop v b
+  unfolding firmwareHeader
+  firmware-again =
+      rw (code-length b (k .held))
+      (firmware-row firmwareOf (codeLen b) (hashesOf 16 (firstRoom v) (codeOf b)) (between (v + 960) (v + 1024) b) (codeOf b)
+      ∙ rw hashes-are (sym firmware-apart))
+
+  file-again : fileOf (partsOf b) ≡ b
+  unfolding fileOf partsOf
+  file-again =
+      on (vendorHeader vendorOf (between 32 (stringLenAt n) b) (stringOf b) (pictureOf b) (between (v - 64) v b))
+      (ap (λ (i : ℕ). firmwareHeader i firmwareOf (codeOf b) (between (v + 960) (v + 1024) b) ++ codeOf b) same-size ∙ firmware-again)
+      ∙ vendor-again
+
+  -- neither writer refuses the parts, which have the sizes of the writers' types
+  parts-taken : Taken (partsOf b)
+  unfolding partsOf vendorRefusals firmwareRefusals
+  parts-taken =
+      let keys : length (between 32 (stringLenAt n) b) ≡ 32 * n = length-part b 32 (stringLenAt n) (omega (arith, long, k .vendor .room)) ∙ past 32 (32 * n) in
+      let short : length (stringOf b) ≤ 255 = rw string-length (omega (arith, bytes (stringLenAt n))) in
+      record {
+        vendorTaken = sym
+            (passes-here _ _ (k .vendor .keys .test)
+            (passes-here _ _ (rw (eq-eqb (length (between 32 (stringLenAt n) b)) (32 * n) keys, le-ltb 255 (length (stringOf b)) short))
+            (passes-here _ _ (rw same-size (le-ltb 65536 v (k .vendor .size .most)))
+            (passes-here _ _ (rw same-size (le-ltb v v (omega arith))) ends))));
+        firmwareTaken = sym
+            (passes-here _ _ (rw same-size (k .vendor .size .test))
+            (passes-here _ _ (rw (same-size, code-length b (k .held)) (k .firmware .code .test))
+            (passes-here _ _ refl ends)));
+      }
+
+  parts-sized : Sized (partsOf b)
+  unfolding partsOf
+  parts-sized =
+      record {
+        vendorExpiry32 = word-small b bytes 8;
+        expiry32 = word-small b bytes (v + 8);
+        vsig64 = length-part b (v - 64) v (omega (arith, long)) ∙ back v (omega (arith, k .vendor .size .least));
+        sig64 = length-part b (v + 960) (v + 1024) (omega (arith, long)) ∙ between-both v;
+      }
+    where
+      back : (x : ℕ) → 64 ≤ x → x - (x - 64) ≡ 64
+      back x h = omega arith
+
+      between-both : (x : ℕ) → x + 1024 - (x + 960) ≡ 64
+      between-both x = omega arith
+
+-- demand 2, second half
+pub rewritten-images-are-the-same : RewrittenImagesAreTheSame
+unfolding vendorMagicMissing partsOf
+rewritten-images-are-the-same b bytes given i h =
+    let p = file-rows-pass b given i h in
+    let l = file-length (vendorMagicMissing b) b given p in
+    let r = headers-pass (vendorMagicMissing b) b given (p .headers) in
+    let m : startsWith TRZV b ≡ true = not-false _ (r .magic) in
+    let a = vendor-allowed b given (r .allowed) in
+    let f = firmware-allowed b given (r .signed) in
+    record {
+      wellFormed = record {
+        sized = parts-sized b bytes m (sound p) l;
+        taken = parts-taken b bytes m (sound p) l;
+        policy = r .policy;
+        vendorInTime = a .timely;
+        vendorSigned = a .signed;
+        firmwareInTime = f .timely;
+        firmwareSigned = f .signed;
+      };
+      same = file-again b bytes m (sound p) l;
+    }

@@ -1,0 +1,9 @@
+-- The laws that the proofs of writer cite.
+pub mod Numbers
+pub mod Fields
+pub mod Taken
+pub mod Joined
+pub mod Standing
+pub mod Passes
+pub mod Answers
+pub mod Again

@@ -1,0 +1,21 @@
+-- A picture above the limit makes the header too long, and below it the sum is small enough to be made.
+use native.Mathlib.Omega.{arith}
+use mathlib.Core.Path.{sym}
+use Prim.Native.Nat.{_+_}
+use borrow.Author.Needs.{needs}
+use borrow.Author.Tests.{lt-ltb}
+use Rattle.field.specs.Rounding.{roundUp}
+use Rattle.writer.proofs.too_long.Statement.{statement}
+use Rattle.writer.proofs.too_long.Tie as tie
+
+pub too-long-spec : {M : Type 1} → statement M
+too-long-spec =
+    tie.close
+    (tie.spec
+    (λ c. let a = c .before .args in sym (lt-ltb 65536 (roundUp 512 (a .start + a .picture + 65)) (omega arith)))
+    (λ c. search needs)
+    (λ c. search needs)
+    (λ c. search needs)
+    (λ c. search needs)
+    (λ c. search needs)
+    (λ c. search needs))

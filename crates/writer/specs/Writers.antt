@@ -1,0 +1,28 @@
+-- What both writers answer and leave in the output.
+-- Assumes nothing.
+use Prim.Native.Nat.{ℕ}
+use mathlib.Core.List.{List, _++_}
+use lib.ListN.{length, drop}
+use Rattle.header.specs.declared.Outcome.{Outcome}
+use Rattle.header.specs.declared.Outcome.the-variants.{Pass, Refused}
+use Rattle.writer.specs.declared.Written.{Written}
+use Rattle.writer.specs.declared.Written.the-variants.{Header, Not}
+
+-- the paper's number of every answer, and the length that a success tells
+abbrev pub numberOf : Written → ℕ
+numberOf (Header len) = 0
+numberOf (Not number) = number
+
+abbrev pub lengthOf : Written → ℕ
+lengthOf (Header len) = len
+lengthOf (Not number) = 0
+
+-- the header's length, or the number of the first failing row
+abbrev pub answered : Outcome → ℕ → Written
+answered Pass len = Header len
+answered (Refused r) len = Not (r .number)
+
+-- the output: the header and what stood behind it, or all as it was
+abbrev pub output : Outcome → List ℕ → List ℕ → List ℕ
+output Pass header out = header ++ drop (length header) out
+output (Refused r) header out = out

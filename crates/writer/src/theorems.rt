@@ -1,0 +1,19 @@
+// Demand 2: the writers and the check agree. Each theorem is the promise of a function with an empty
+// body.
+ghost use Rattle.writer.specs.Theorems.{WrittenImagesPass, RewrittenImagesAreTheSame, WrittenImagesAnswer};
+
+// A well-formed image passes the file check with yes from the chip.
+pub fn written_images_pass()
+    ensures { λ r. ⌜ WrittenImagesPass ⌝ }
+{}
+
+// An accepted file, taken apart and written again, is the same bytes.
+pub fn rewritten_images_are_the_same()
+    ensures { λ r. ⌜ RewrittenImagesAreTheSame ⌝ }
+{}
+
+// The digest questions on a written image are answered, whatever was written as sigmask and
+// signature.
+pub fn written_images_answer()
+    ensures { λ r. ⌜ WrittenImagesAnswer ⌝ }
+{}
