@@ -34,14 +34,13 @@ loop-again c =
     let l = r .before .before in
     let a = l .before .before .args in
     let i = l .loop .inv in
-    let e : l .loop .at + r .room-of .result ≡ chunkStart (a .first) (l .loop .k + 1) = ap₂ (λ (x y : ℕ). x + y) (i .1) (r .room-of .ensures) ∙ start-more (a .first) (l .loop .k) in
-    (
+    let e : l .loop .at + r .room-of .result ≡ chunkStart (a .first) (l .loop .k + 1) = ap₂ (λ (x y : ℕ). x + y) (i .1) (r .room-of .ensures) ∙ start-more (a .first) (l .loop .k) in (
       omega arith,
       e,
       search needs,
       hash-of-more (l .loop .t) (a .first) (now (a .code)) (l .loop .k) (omega arith) (i .3)
-      (c .hash-of .ensures
-      ∙ ap hashOf (c .before .part .ensures ∙ ap₂ (λ (x y : ℕ). between x y (now (a .code))) (i .1) e ∙ chunk-is (a .first) (l .loop .k) (now (a .code)))),
+          (c .hash-of .ensures
+          ∙ ap hashOf (c .before .part .ensures ∙ ap₂ (λ (x y : ℕ). between x y (now (a .code))) (i .1) e ∙ chunk-is (a .first) (l .loop .k) (now (a .code)))),
     )
 
 returns : tie.Need-returns Inv-loop μ-loop
