@@ -1,11 +1,11 @@
 -- Which calls a phase allows: the record is sound, so each call's own test decides, and it is about numbers that the phase tells.
 -- Assumes nothing.
 use mathlib.Core.Path.{_≡_, ap, _∙_}
-use mathlib.Core.List.{List}
+use mathlib.Core.List.{List, _++_}
 use mathlib.Core.Bool.{true, false}
 use Prim.Native.Nat.{ℕ, _+_, _≤_}
 use native.Mathlib.Omega.{arith}
-use lib.ListN.{length, take, length-append, length-drop}
+use lib.ListN.{length, take, drop, length-append, length-drop}
 use borrow.Author.Tests.{le-leb, lt-leb, eq-eqb, ne-eqb, eqb-true}
 use Rattle.flash.specs.Flash.{erasedBytes, startsErased}
 use Rattle.flash.proofs.Laws.{length-erased}
@@ -13,7 +13,7 @@ use Rattle.installer.specs.Record.{pagesOf, erasing, filling, full}
 use Rattle.installer.specs.Calls.{fileIn}
 use Rattle.installer.specs.Run.{Point, allGiven}
 use Rattle.installer.proofs.Facts.{sound-test, over-not-sound}
-use Rattle.installer.proofs.Slot.{holding-first, length-holding, word-erased, holding-file}
+use Rattle.installer.proofs.Slot.{holding, holding-first, length-holding, word-erased, holding-file}
 use Rattle.installer.proofs.Phases.{Erasing, Filling}
 
 module _ (found : List ℕ) (f : ℕ) where
@@ -93,7 +93,9 @@ module _ (found : List ℕ) (f : ℕ) where
   file-checked p e a =
       let all : length (p .past .given) ≡ f = eqb-true (length (p .past .given)) f a in
       let four : 4 ≤ length (p .past .given) = first-word-given p e a in
-      rw (e .first four, e .file, e .slot, ← all) (holding-file (p .past .given) (length found) four (omega (arith, e .sound .fileWhole, e .file)))
+      rw (e .file, e .slot, ← all)
+      (ap (λ (w : List ℕ). w ++ drop 4 (take (length (p .past .given)) (holding (p .past .given) (length found)))) (e .first four)
+      ∙ holding-file (p .past .given) (length found) four (omega (arith, e .sound .fileWhole, e .file)))
 
   -- ---- once the session is over
 

@@ -60,13 +60,16 @@ abbrev pub wordAt : Session → ℕ
 wordAt s = s .taken / 4 * 4
 
 -- by cases: 19; the word is not complete; it is word 0, which the record keeps; its place is erased; 23
-abbrev pub fillCase : {A : Type 0} → Bool → Bool → Bool → Bool → A → A → A → A → A → A
-fillCase may complete first erased wrong kept opening stored over = cond may (cond complete (cond first opening (cond erased stored over)) kept) wrong
+abbrev pub fillCase : {A : Type 0} → Session → ℕ → List ℕ → A → A → A → A → A → A
+fillCase s k slot wrong kept opening stored notErased =
+    cond (filling s (length slot))
+    (cond (eqb (s .taken % 4 + k) 4) (cond (ltb (s .taken) 4) opening (cond (startsErased (drop (wordAt s) slot)) stored notErased)) kept)
+    wrong
 
 -- k bytes are taken, which make the word w
 abbrev pub filled : Session → ℕ → List ℕ → List ℕ → Turn
 filled s k w slot =
-    fillCase (filling s (length slot)) (eqb (s .taken % 4 + k) 4) (ltb (s .taken) 4) (startsErased (drop (wordAt s) slot))
+    fillCase s k slot
     (refused s 19)
     (record { session = withBytes s k w (s .first) 0; reply = reply.Took k })
     (record { session = withBytes s k w w 0; reply = reply.Took k })
@@ -75,7 +78,7 @@ filled s k w slot =
 
 abbrev pub filledSlot : Session → ℕ → List ℕ → List ℕ → List ℕ
 filledSlot s k w slot =
-    fillCase (filling s (length slot)) (eqb (s .taken % 4 + k) 4) (ltb (s .taken) 4) (startsErased (drop (wordAt s) slot))
+    fillCase s k slot
     slot
     slot
     slot

@@ -7,24 +7,20 @@ use Prim.Native.Nat.{ℕ, _+_, _-_, _*_, _/_, _%_, _≤_, _<_}
 use native.Mathlib.Omega.{arith}
 use lib.ListN.{length, getD, drop, drop-of-length-le}
 use borrow.Author.Tests.{not-false, eq-eqb, le-ltb}
-use Rattle.field.specs.Field.{u32At, between, startsWith}
+use Rattle.field.specs.Field.{between, startsWith}
 use Rattle.field.specs.Put.{le16, le32, zeros}
-use Rattle.header.specs.Layout.{TRZV, TRZF, vendorLen, vendorExpiry, signersNeeded, keyCount, vtrust, stringLenAt, stringStart, stringLen, stringEnd, pictureStart, maskAt, vendorMask, firmwareExpiry, firmwareMask, codeLen, codeStart, imageLen, firstRoom}
-use Rattle.header.specs.Steps.{vendorMagicMissing, bytesFollow}
-use Rattle.header.specs.Table.{firstFailing}
-use Rattle.header.specs.declared.Inputs.{Inputs}
-use Rattle.header.specs.declared.Outcome.the-variants.{Pass}
+use Rattle.header.specs.Layout.{TRZV, TRZF, vendorLen, vendorExpiry, signersNeeded, keyCount, vtrust, stringLenAt, stringStart, stringLen, stringEnd, pictureStart, maskAt, vendorMask, firmwareExpiry, firmwareMask, codeLen, imageLen, firstRoom}
+use Rattle.header.specs.Steps.{vendorMagicMissing}
 use Rattle.header.proofs.Rows.{passes-here, ends}
 use Rattle.header.proofs.Facts.{headers-pass, vendor-allowed, firmware-allowed}
-use Rattle.image.specs.Chunks.{hashesOf, hashesAt, hashTable, codeOf}
+use Rattle.image.specs.Chunks.{hashesOf, hashTable, codeOf}
 use Rattle.image.specs.Answer.{versionAt}
 use Rattle.image.specs.Parts.{stringOf, pictureOf}
-use Rattle.image.specs.declared.Version.{Version}
-use Rattle.image.proofs.Facts.{Sound, RowsPass, sound, file-rows-pass, file-length, code-length, code-is-rest}
+use Rattle.image.proofs.Facts.{Sound, sound, file-rows-pass, file-length, code-length, code-is-rest}
 use Rattle.writer.specs.Vendor.{vendorSize, vendorHead, vendorFront, vendorBack, vendorFields, vendorHeader, vendorRefusals}
 use Rattle.writer.specs.Firmware.{quad, joined, firmwareHead, firmwareFields, firmwareHeader, firmwareRefusals}
-use Rattle.writer.specs.Parts.{Parts, sizeOf, fileOf, Sized, Taken, WellFormed, partsOf}
-use Rattle.writer.specs.Theorems.{Rewritten, RewrittenImagesAreTheSame}
+use Rattle.writer.specs.Parts.{fileOf, Sized, Taken, partsOf}
+use Rattle.writer.specs.Theorems.{RewrittenImagesAreTheSame}
 use Rattle.writer.specs.declared.Vendor.{Vendor}
 use Rattle.writer.specs.declared.Firmware.{Firmware}
 use Rattle.writer.proofs.Fields.{on, split-magic, length-part, split-part, split-byte, split-zeros, split-word, split-half, word-small}

@@ -6,8 +6,6 @@ use Prim.Native.Nat.{ℕ}
 use lib.ListN.{length}
 use Rattle.blake2s.specs.Rfc7693.{blake2sOf}
 use Rattle.blake2s.specs.Parts.{zeroTailed}
-use Rattle.field.specs.Field.{between}
-use Rattle.header.specs.Layout.{maskAt}
 use Rattle.header.specs.Steps.{vendorMagicMissing}
 use Rattle.header.specs.Table.{firstFailing}
 use Rattle.header.specs.declared.Outcome.{Outcome}

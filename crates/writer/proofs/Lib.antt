@@ -7,3 +7,4 @@ pub mod Standing
 pub mod Passes
 pub mod Answers
 pub mod Again
+pub mod Sample

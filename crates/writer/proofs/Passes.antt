@@ -2,14 +2,14 @@
 -- Assumes nothing.
 use mathlib.Core.Path.{_≡_, refl, sym, ap, ap₂, _∙_}
 use mathlib.Core.List.{List, [], _∷_, _++_, append-assoc}
-use mathlib.Core.Bool.{Bool, true, false, not}
-use Prim.Native.Nat.{ℕ, _+_, _≤_, _<_}
+use mathlib.Core.Bool.{true, false, not}
+use Prim.Native.Nat.{ℕ, _+_, _≤_}
 use native.Mathlib.Omega.{arith}
-use lib.ListN.{length, getD, drop, length-append}
+use lib.ListN.{length, getD, length-append}
 use lib.Seq.{drop-at}
 use borrow.Author.Tests.{le-ltb, ne-eqb}
 use Rattle.field.specs.Put.{zeros}
-use Rattle.header.specs.Layout.{vendorLen, stringLenAt, stringLen, pictureStart, codeStart, imageLen, firstRoom}
+use Rattle.header.specs.Layout.{vendorLen, stringLenAt, stringLen, pictureStart, imageLen, firstRoom}
 use Rattle.header.specs.Steps.{policyImpossible, vendorMagicMissing, shorterThanAnyHeader, vendorLenImpossible, vendorHeaderCut, vendorKeysImpossible, stringLeavesNoRoom, vendorBytesNotZero, vendorExpired, vendorMaskWrong, firmwareHeaderCut, firmwareMagicMissing, firmwareLenWrong, firstChunkHasNoRoom, codeLenWrong, firmwareBytesNotZero, firmwareExpired, firmwareMaskWrong}
 use Rattle.header.specs.Table.{firstFailing, vendorShape, vendorPolicy, firmwareShape, firmwarePolicy, headerRows}
 use Rattle.header.specs.declared.Inputs.{Inputs}
@@ -17,7 +17,6 @@ use Rattle.header.specs.declared.Outcome.the-variants.{Pass}
 use Rattle.header.proofs.Rows.{passes-here, ends, stage-passes}
 use Rattle.image.specs.Chunks.{hashesOf, hashesAt, hashTable, codeOf}
 use Rattle.image.specs.Answer.{imageOf}
-use Rattle.image.specs.Check.{checkFile}
 use Rattle.image.specs.declared.Answer.the-variants.{Accepted}
 use Rattle.image.proofs.Facts.{sound-file-accepted, code-is-rest}
 use Rattle.writer.specs.Vendor.{vendorFields}

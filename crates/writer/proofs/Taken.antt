@@ -1,6 +1,6 @@
 -- What a writer knows where no row refuses, and what it answers and leaves by the outcome of its rows.
 -- Assumes nothing.
-use mathlib.Core.Path.{_≡_, refl, sym, ap, _∙_}
+use mathlib.Core.Path.{_≡_, sym, ap, _∙_}
 use mathlib.Core.List.{List}
 use mathlib.Core.Bool.{Bool, false, not, _||_}
 use Prim.Native.Nat.{ℕ, _+_, _*_, _≤_}
@@ -75,10 +75,11 @@ unfolding firmwareRefusals
 firmware-fits v codelen room h3 =
     let h12 = pass-tail _ _ _ h3 in
     let h21 = pass-tail _ _ _ h12 in
+    let large = ltb-false room _ (pass-head _ _ _ h21) in
     record {
       size = length-possible v (pass-head _ _ _ h3);
       code = code-len-possible v codelen (pass-head _ _ _ h12);
-      holds = ltb-false room 1024 (pass-head _ _ _ h21);
+      holds = omega arith;
     }
 
 -- ---- both writers: x is what the rows' function returned, o the outcome of the rows

@@ -270,11 +270,11 @@ fn put_hashes(out: &mut [u8], from: usize, table: [[u8; 32]; 16]) -> usize
     ensures { λ r. ⌜ (r ≡ from + 512) × Put from (joined table) (now (out .entry)) r (now (out .exit)) ⌝ }
 {
     let mut at = from;
-    let mut k: usize = 0;
-    while k < 16 {
-        let h = table[k];
+    let mut i: usize = 0;
+    while i < 16 {
+        let h = table[i];
         at = put_hash(out, at, h);
-        k += 1;
+        i += 1;
     }
     at
 }

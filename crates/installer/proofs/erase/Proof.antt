@@ -1,5 +1,5 @@
 -- Past the test the record is sound and a page is left, so the page lies in the slot; the part lent comes back with it erased.
-use Prim.Native.Nat.{ℕ, _+_, _*_}
+use Prim.Native.Nat.{ℕ, _+_, _*_, _≤_}
 use denote.Ref.{now}
 use mathlib.Core.Path.{_≡_}
 use mathlib.Core.Bool.{true, false}
@@ -9,7 +9,7 @@ use native.Mathlib.Numerals.{add-one}
 use lib.Dec.{leb}
 use lib.ListN.{length}
 use borrow.Author.Needs.{needs}
-use borrow.Author.Tests.{leb-true}
+use borrow.Author.Tests.{ltb-true}
 use Rattle.flash.specs.Flash.{erasedBytes}
 use Rattle.installer.specs.Record.{pagesOf, erasing}
 use Rattle.installer.specs.declared.Session.{Session}
@@ -28,14 +28,26 @@ abbrev recordOf : tie.Else1 → Session
 recordOf d = start d .args .s
 
 -- past the test: the record's facts, and a page is left
-abbrev ready : (d : tie.Else1) → Sound (recordOf d) (length (slotOf d)) × (leb (recordOf d .pages + 1) (pagesOf (length (slotOf d))) ≡ true) × (erasing (recordOf d) (length (slotOf d)) ≡ true)
-ready d = rw add-one (passed _ _ _ _ (d .before .before .sound .ensures) (d .if1 .left))
+abbrev facts : (d : tie.Else1) → Sound (recordOf d) (length (slotOf d))
+facts d = passed _ _ _ _ (d .before .before .sound .ensures) (d .if1 .left) .0
+
+room : (d : tie.Else1) → recordOf d .pages * 4096 + 4096 ≤ length (slotOf d)
+room d = let p = passed _ _ _ _ (d .before .before .sound .ensures) (d .if1 .left) in omega (arith, ltb-true, p)
 
 returns : tie.Need-returns
 returns c =
     let a = c .before .before .before .before .before .args in
-    let e : erasing (a .s) (length (now (a .slot))) ≡ false = rw add-one (barred _ _ _ _ (c .before .before .before .sound .ensures) (c .before .if1 .taken)) in
-    (rw e (c .refused .ensures), rw e)
+    let e = barred _ _ _ _ (c .before .before .before .sound .ensures) (c .before .if1 .taken) in
+    (rw (add-one (a .s .pages), e) (c .refused .ensures), rw (add-one (a .s .pages), e))
+
+returns-2 : tie.Need-returns-2
+returns-2 c =
+    let d : tie.Else1 = c .before .before .before .before .before .before .before in
+    let e = passed _ _ _ _ (d .before .before .sound .ensures) (d .if1 .left) .2 in (
+      rw (add-one (recordOf d .pages), e),
+      rw (add-one (recordOf d .pages), e)
+          (part-back (recordOf d .pages * 4096) 4096 (slotOf d) _ (erasedBytes 4096) (c .before .before .before .before .erase-page .ensures)),
+    )
 
 pub erase-spec : {M : Type 1} → statement M
 erase-spec =
@@ -44,16 +56,12 @@ erase-spec =
     (λ c κs. search needs)
     (λ c κs. search needs)
     returns
-    (λ c. omega (arith, leb-true, ready (c .before)))
-    (λ c. omega (arith, leb-true, ready (c .before)))
-    (λ c. omega (arith, leb-true, ready (c .before)))
+    (λ c. omega (arith, room (c .before)))
+    (λ c. omega (arith, room (c .before)))
+    (λ c. omega (arith, room (c .before)))
     (λ c. search needs)
-    (λ c κs. part-long (recordOf (c .before .before) .pages * 4096) 4096 (slotOf (c .before .before)) (omega (arith, leb-true, ready (c .before .before))))
-    (λ c. omega (arith, ready (c .before .before .before .before .before .before)))
-    (λ c. omega (arith, ready (c .before .before .before .before .before .before .before)))
+    (λ c κs. part-long (recordOf (c .before .before) .pages * 4096) 4096 (slotOf (c .before .before)) (room (c .before .before)))
+    (λ c. omega (arith, facts (c .before .before .before .before .before .before)))
+    (λ c. omega (arith, facts (c .before .before .before .before .before .before .before)))
     (λ c. search needs)
-    (λ c.
-    let d : tie.Else1 = c .before .before .before .before .before .before .before in (
-      rw (ready d .2),
-      rw (ready d .2) (part-back (recordOf d .pages * 4096) 4096 (slotOf d) _ (erasedBytes 4096) (c .before .before .before .before .erase-page .ensures)),
-    )))
+    returns-2)

@@ -23,10 +23,10 @@ firmware-refusals-spec =
     let e1 = e2 .before .before in
     passes _ _ (e1 .before .length-impossible .ensures) (e1 .if1 .left)
     (passes _ _ (e2 .before .code-len-impossible .ensures) (e2 .if2 .left)
-    (fails-here _ _ (lt-ltb _ 1024 (c .before .if3 .taken)) (c .refuse3 .ensures))))
+    (fails-here _ _ (lt-ltb _ _ (c .before .if3 .taken)) (c .refuse3 .ensures))))
     (λ c.
     let e2 = c .before in
     let e1 = e2 .before .before in
     passes _ _ (e1 .before .length-impossible .ensures) (e1 .if1 .left)
     (passes _ _ (e2 .before .code-len-impossible .ensures) (e2 .if2 .left)
-    (passes-here _ _ (le-ltb _ 1024 (c .if3 .left)) ends))))
+    (passes-here _ _ (le-ltb _ _ (c .if3 .left)) ends))))

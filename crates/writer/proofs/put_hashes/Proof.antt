@@ -1,4 +1,4 @@
--- So far the first k hashes are written one behind the other; each turn writes one more behind them.
+-- So far the first i hashes are written one behind the other; each turn writes one more behind them.
 use native.Mathlib.Omega.{arith}
 use Prim.Native.Nat.{_≤_, _-_, _+_, _*_}
 use mathlib.Core.Path.{_≡_, refl}
@@ -13,11 +13,11 @@ use Rattle.writer.proofs.put_hashes.Statement.{statement}
 use Rattle.writer.proofs.put_hashes.Tie as tie
 
 abbrev Inv-loop : tie.InvT-loop
-Inv-loop out₀ from table at₀ k₀ out at k =
-    (k ≤ 16) × (at ≡ from + 32 * k) × (length out ≡ length out₀) × (length table ≡ 16) × Put from (joined (take k table)) out₀ at out
+Inv-loop out₀ from table at₀ i₀ out at i =
+    (i ≤ 16) × (at ≡ from + 32 * i) × (length out ≡ length out₀) × (length table ≡ 16) × Put from (joined (take i table)) out₀ at out
 
 abbrev μ-loop : tie.MeasureT-loop
-μ-loop out₀ from table at₀ k₀ out at k = 16 - k
+μ-loop out₀ from table at₀ i₀ out at i = 16 - i
 
 loop-holds : tie.Need-loop-holds Inv-loop μ-loop
 loop-holds c = (omega arith, omega arith, refl, search needs, none _ _ (omega arith))
@@ -31,14 +31,14 @@ loop-again c =
       omega (arith, b .put-hash .ensures .0, l .loop .inv .1),
       omega arith,
       l .loop .inv .3,
-      rw (joined-more (a .t3) (l .loop .k) (omega arith)) (next (l .loop .inv .4) (b .put-hash .ensures .1)),
+      rw (joined-more (a .t3) (l .loop .i) (omega arith)) (next (l .loop .inv .4) (b .put-hash .ensures .1)),
     )
 
 returns : tie.Need-returns Inv-loop μ-loop
 returns c =
     let l = c .before in
     let a = l .before .before .args in
-    let e : l .loop .k ≡ 16 = omega arith in
+    let e : l .loop .i ≡ 16 = omega arith in
     (omega arith, rw (e, take-all 16 (a .t3) (omega arith)) at (l .loop .inv .4))
 
 pub put-hashes-spec : {M : Type 1} → statement M

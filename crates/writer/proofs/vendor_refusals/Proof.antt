@@ -5,8 +5,8 @@ use mathlib.Core.Path.{sym, _∙_}
 use borrow.Author.Needs.{needs}
 use borrow.Author.Tests.{ltb-false, lt-ltb, le-ltb}
 use Rattle.field.specs.Rounding.{roundUp}
-use Rattle.header.proofs.Rows.{rows, passes, fails, passes-here, fails-here, ends}
-use Rattle.writer.specs.Vendor.{vendorSize, vendorRefusals}
+use Rattle.header.proofs.Rows.{passes, fails, passes-here, fails-here, ends}
+use Rattle.writer.specs.Vendor.{vendorRefusals}
 use Rattle.writer.proofs.Taken.{lengths-right, too-long-is}
 use Rattle.writer.proofs.vendor_refusals.Statement.{statement}
 use Rattle.writer.proofs.vendor_refusals.Tie as tie
@@ -77,11 +77,13 @@ vendor-refusals-spec =
     (λ c. search needs)
     (λ c κs. search needs)
     (λ c κs. search needs)
-    (λ c. search rows depth 9)
+    (λ c. fails _ _ (c .before .before .keys-impossible .ensures) (c .before .if1 .taken) (c .refuse .ensures))
     (λ c. search needs)
     (λ c. search needs)
     (λ c κs. search needs)
-    (λ c. search rows depth 9)
+    (λ c.
+    let e1 = c .before .before in
+    passes _ _ (e1 .before .keys-impossible .ensures) (e1 .if1 .left) (fails-here _ _ (c .before .if2 .taken) (c .refuse2 .ensures)))
     cast-picture-start
     (λ c κs. search needs)
     too-long-requires
