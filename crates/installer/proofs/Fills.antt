@@ -12,7 +12,7 @@ use lib.ListN.{length, take, drop, length-append}
 use lib.Seq.{drop-length, take-all, take-append-le, drop-append-le, length-take-le, paste, take-paste, length-paste}
 use Rattle.flash.specs.Flash.{startsErased}
 use Rattle.installer.specs.Record.{pagesOf, wordsStored, withBytes}
-use Rattle.installer.specs.Calls.{takes, filled, filledSlot, wordAt}
+use Rattle.installer.specs.Calls.{takes, wordAt, inFirstWord, filled, filledSlot}
 use Rattle.installer.specs.Run.{fillCall, Point, advance, fillAnswer, adds}
 use Rattle.installer.specs.declared.Reply.the-variants.{Took}
 use Rattle.installer.proofs.Slot.{wholeWords, holding, holding-opening, holding-kept, holding-free, holding-stored}
@@ -76,6 +76,12 @@ module _ (found : List ℕ) (f : ℕ) (p : Point) (e : Filling found f p) (piece
       let l : wholeWords (more p piece k) ≡ length (more p piece k) = omega arith in
       ap (λ (j : ℕ). take j (wordOf p piece k)) z ∙ sym (ap (λ (j : ℕ). drop j (more p piece k)) l ∙ drop-length (more p piece k))
 
+  in-first-word : length (p .past .given) < 4 → inFirstWord (p .now .session) ≡ true
+  in-first-word h = lt-ltb (p .now .session .taken) 4 (omega (arith, e .taken))
+
+  past-first-word : 4 ≤ length (p .past .given) → inFirstWord (p .now .session) ≡ false
+  past-first-word h = le-ltb (p .now .session .taken) 4 (omega (arith, e .taken))
+
   first-kept : 4 ≤ length (p .past .given) → p .now .session .first ≡ take 4 (more p piece k)
   first-kept h = e .first h ∙ sym (take-append-le 4 (p .past .given) (take k piece) h)
 
@@ -127,7 +133,7 @@ module _ (found : List ℕ) (f : ℕ) (p : Point) (e : Filling found f p) (piece
   fill-first-word : length (p .past .given) % 4 + k ≡ 4 → length (p .past .given) < 4 → Phase found f (filledPoint p piece k)
   fill-first-word h q =
       let z : wholeWords (p .past .given) ≡ 0 = omega arith in
-      rw (fill-allowed found f p e, eq-eqb (p .now .session .taken % 4 + k) 4 (omega (arith, e .taken)), lt-ltb (p .now .session .taken) 4 (omega (arith, e .taken)))
+      rw (fill-allowed found f p e, eq-eqb (p .now .session .taken % 4 + k) 4 (omega (arith, e .taken)), in-first-word q)
       (still-filling (wordOf p piece k) (p .now .slot) 0
       (omega arith)
       (e .slot ∙ holding-opening (p .past .given) (take k piece) (length found) (omega arith) (omega (arith, length-given)))
@@ -139,7 +145,7 @@ module _ (found : List ℕ) (f : ℕ) (p : Point) (e : Filling found f p) (piece
       rw (
         fill-allowed found f p e,
         eq-eqb (p .now .session .taken % 4 + k) 4 (omega (arith, e .taken)),
-        le-ltb (p .now .session .taken) 4 (omega (arith, e .taken)),
+        past-first-word q,
         place-erased found f p e k q h in-file,
       )
       (still-filling (p .now .session .first) _ 1
@@ -173,14 +179,14 @@ module _ (found : List ℕ) (f : ℕ) where
   -- what it answers: by the rule, with none refused
   answers-took : (p : Point) → Filling found f p → (k : ℕ) (w : List ℕ) → length (p .past .given) + k ≤ f
       → filled (p .now .session) k w (p .now .slot) .reply ≡ Took k
-  answers-took p e k w in-file = go (eqb (p .now .session .taken % 4 + k) 4) refl (ltb (p .now .session .taken) 4) refl
+  answers-took p e k w in-file = go (eqb (p .now .session .taken % 4 + k) 4) refl (inFirstWord (p .now .session)) refl
     where
-      go : (a : Bool) → eqb (p .now .session .taken % 4 + k) 4 ≡ a → (b : Bool) → ltb (p .now .session .taken) 4 ≡ b → filled (p .now .session) k w (p .now .slot) .reply ≡ Took k
-      go false x b y = rw (fill-allowed found f p e, x)
-      go true x true y = rw (fill-allowed found f p e, x, y)
+      go : (a : Bool) → eqb (p .now .session .taken % 4 + k) 4 ≡ a → (b : Bool) → inFirstWord (p .now .session) ≡ b → filled (p .now .session) k w (p .now .slot) .reply ≡ Took k
+      go false x b y = rw (fill-allowed found f p e, x) refl
+      go true x true y = rw (fill-allowed found f p e, x, y) refl
       go true x false y =
           let full : p .now .session .taken % 4 + k ≡ 4 = eqb-true (p .now .session .taken % 4 + k) 4 x in
-          let past : 4 ≤ p .now .session .taken = ltb-false (p .now .session .taken) 4 y in
+          let past : 4 ≤ p .now .session .taken = ltb-false _ _ y in
           rw (fill-allowed found f p e, x, y, place-erased found f p e k (omega (arith, e .taken)) (omega (arith, e .taken)) in-file)
 
   pub fill-answers : (piece : List ℕ) (p : Point) → Filling found f p → fillAnswer piece (p .now) ≡ Took (adds f (p .past) piece)

@@ -19,7 +19,6 @@ use Rattle.installer.specs.Record.{slotLenRight, fileLenRight, erasing, 
 use Rattle.installer.specs.declared.Session.{Session}
 use Rattle.installer.specs.declared.Asked.{Asked}
 use Rattle.installer.specs.declared.Turn.{Turn}
-use Rattle.installer.specs.declared.Reply.{Reply}
 use Rattle.installer.specs.declared.Reply.the-variants as reply
 
 -- a refused call: the record as it was, and the number
@@ -59,11 +58,15 @@ joined s piece = paste (s .held) (s .taken % 4) piece (takenBy s piece)
 abbrev pub wordAt : Session → ℕ
 wordAt s = s .taken / 4 * 4
 
+-- the word in progress is word 0
+abbrev pub inFirstWord : Session → Bool
+inFirstWord s = ltb (s .taken) 4
+
 -- by cases: 19; the word is not complete; it is word 0, which the record keeps; its place is erased; 23
 abbrev pub fillCase : {A : Type 0} → Session → ℕ → List ℕ → A → A → A → A → A → A
 fillCase s k slot wrong kept opening stored notErased =
     cond (filling s (length slot))
-    (cond (eqb (s .taken % 4 + k) 4) (cond (ltb (s .taken) 4) opening (cond (startsErased (drop (wordAt s) slot)) stored notErased)) kept)
+    (cond (eqb (s .taken % 4 + k) 4) (cond (inFirstWord s) opening (cond (startsErased (drop (wordAt s) slot)) stored notErased)) kept)
     wrong
 
 -- k bytes are taken, which make the word w

@@ -2,7 +2,7 @@
 -- A power cut is such an end, since each call makes at most one operation of the flash, and that happens wholly or not at all.
 -- Nobody else writes the slot, and each call gets the record and the slot that the last one left.
 -- Assumes nothing.
-use Prim.Native.Nat.{ℕ, _+_, _/_, _≤_, _<_, _-_, min}
+use Prim.Native.Nat.{ℕ, _+_, _/_, _<_, _-_, min}
 use mathlib.Core.Path.{_≡_}
 use mathlib.Core.List.{List, [], _∷_, _++_}
 use mathlib.Core.Bool.{Bool, true, false, not, _&&_, _||_, cond}
@@ -18,7 +18,6 @@ use Rattle.image.specs.declared.Answer.the-variants as answer
 use Rattle.installer.specs.Record.{pagesOf, wordsStored}
 use Rattle.installer.specs.Calls.{beginOf, eraseOf, eraseSlot, takes, fillOf, fillSlot, closeOf, closeSlot}
 use Rattle.installer.specs.declared.Session.{Session}
-use Rattle.installer.specs.declared.Turn.{Turn}
 use Rattle.installer.specs.declared.Reply.{Reply}
 use Rattle.installer.specs.declared.Reply.the-variants.{Begun, Erased, Took, Done, Refused, Rejected}
 

@@ -304,8 +304,8 @@ pub fn close(s: Session, given: Inputs, slot: &mut [u8]) -> Turn
     if !full(s, n) {
         return refused(s, 19);
     }
-    let at = 0;
-    if !starts_erased(&slot[at..]) {
+    let start = 0;
+    if !starts_erased(&slot[start..]) {
         return refused(s, 23);
     }
     let file = s.file;
@@ -314,6 +314,6 @@ pub fn close(s: Session, given: Inputs, slot: &mut [u8]) -> Turn
     let Answer::Accepted(_) = answer else {
         return closed(s, answer);
     };
-    store_word(&mut slot[at..], first);
+    store_word(&mut slot[start..], first);
     closed(s, answer)
 }

@@ -1,10 +1,24 @@
 -- Each test's result is the callee's promise, and the tests are made in the definition's order.
-use mathlib.Core.Path.{sym, _∙_}
+use Prim.Native.Nat.{ℕ}
+use denote.Ref.{now}
+use mathlib.Core.Path.{_≡_, sym, _∙_}
+use lib.ListN.{length}
 use borrow.Author.Needs.{needs}
 use borrow.Author.Tests.{not-true, not-false}
+use Rattle.installer.specs.Record.{slotLenRight, fileLenRight}
 use Rattle.installer.specs.Calls.{beginOf}
 use Rattle.installer.proofs.begin.Statement.{statement}
 use Rattle.installer.proofs.begin.Tie as tie
+
+-- the two tests, on the slot's length and on the file's
+abbrev slotLen : tie.After-slot-len-right → ℕ
+slotLen b = length (now (b .before .before .args .slot))
+
+abbrev slotTest : (b : tie.After-slot-len-right) → b .slot-len-right .result ≡ slotLenRight (slotLen b)
+slotTest b = b .slot-len-right .ensures
+
+abbrev fileTest : (b : tie.After-file-len-right) → b .file-len-right .result ≡ fileLenRight (slotLen (b .before .before)) (b .before .before .before .before .args .file)
+fileTest b = b .file-len-right .ensures
 
 pub begin-spec : {M : Type 1} → statement M
 unfolding beginOf
@@ -14,18 +28,14 @@ begin-spec =
     (λ c κs. search needs)
     (λ c κs. search needs)
     (λ c κs. search needs)
-    (λ c.
-    let slot = c .before .before .before in
-    rw (sym (slot .slot-len-right .ensures) ∙ not-true _ (c .before .before .if1 .taken)) (cc))
+    (λ c. rw (sym (slotTest (c .before .before .before)) ∙ not-true _ (c .before .before .if1 .taken)) (cc))
     (λ c κs. search needs)
     (λ c κs. search needs)
     (λ c κs. search needs)
     (λ c.
-    let file = c .before .before .before in
-    let slot = file .before .before in
-    rw (sym (slot .slot-len-right .ensures) ∙ not-false _ (file .before .if1 .left), sym (file .file-len-right .ensures) ∙ not-true _ (c .before .before .if2 .taken)) (cc))
+    let b = c .before .before .before in
+    rw (sym (slotTest (b .before .before)) ∙ not-false _ (b .before .if1 .left), sym (fileTest b) ∙ not-true _ (c .before .before .if2 .taken)) (cc))
     (λ c κs. search needs)
     (λ c.
-    let file = c .before .before in
-    let slot = file .before .before in
-    rw (sym (slot .slot-len-right .ensures) ∙ not-false _ (file .before .if1 .left), sym (file .file-len-right .ensures) ∙ not-false _ (c .before .if2 .left)) (cc)))
+    let b = c .before .before in
+    rw (sym (slotTest (b .before .before)) ∙ not-false _ (b .before .if1 .left), sym (fileTest b) ∙ not-false _ (c .before .if2 .left)) (cc)))

@@ -10,7 +10,9 @@ use lib.Seq.{length-take-le}
 use denote.Ref.{now}
 use Rattle.installer.specs.declared.Session.{Session}
 use Rattle.flash.specs.Flash.{startsErased}
+use Rattle.image.specs.Check.{checkFile}
 use Rattle.installer.specs.Record.{full}
+use Rattle.installer.specs.Calls.{fileIn}
 use Rattle.installer.proofs.Facts.{Sound, passed-full, barred-full}
 use Rattle.installer.proofs.Parts.{part-back, part-whole, part-long}
 use borrow.Author.Needs.{needs}
@@ -35,6 +37,10 @@ opened b = b .before .before .before
 
 abbrev free : (b : tie.After-starts-erased) → startsErased (slotOf (opened b)) ≡ b .starts-erased .result
 free b = ap startsErased (sym (part-whole 0 (slotOf (opened b)))) ∙ sym (b .starts-erased .ensures)
+
+-- the check's answer is that on the file, word 0 from the record
+abbrev checked : (k : tie.After-check-file-word-apart) → k .check-file-word-apart .result ≡ checkFile (fileIn (recordOf (opened (k .before .before .before .before))) (slotOf (opened (k .before .before .before .before)))) (start (opened (k .before .before .before .before)) .args .given)
+checked k = k .check-file-word-apart .ensures
 
 returns : tie.Need-returns
 returns c =
@@ -62,7 +68,7 @@ returns-3 c =
     let b : tie.After-starts-erased = k .before .before .before .before in
     let h = ready (opened b) .1 in
     let g = free b ∙ not-false (b .starts-erased .result) (k .before .before .before .if2 .left) in
-    (rw (h, g, ← k .check-file-word-apart .ensures) (c .closed .ensures), rw (h, g, ← k .check-file-word-apart .ensures, c .before .enum-told2 .given .1))
+    (rw (h, g, ← checked k) (c .closed .ensures), rw (h, g, ← checked k, c .before .enum-told2 .given .1))
 
 store-word-requires : tie.Need-store-word-requires
 store-word-requires c κs = part-long 0 4 (slotOf (opened (c .before .before .before .before .before .before .before))) (omega (arith, ready (opened (c .before .before .before .before .before .before .before))))
@@ -74,8 +80,8 @@ returns-4 c =
     let b : tie.After-starts-erased = k .before .before .before .before in
     let h = ready (opened b) .1 in
     let g = free b ∙ not-false (b .starts-erased .result) (k .before .before .before .if2 .left) in (
-      rw (h, g, ← k .check-file-word-apart .ensures) (c .closed2 .ensures),
-      rw (h, g, ← k .check-file-word-apart .ensures, t .enum-told .given .1)
+      rw (h, g, ← checked k) (c .closed2 .ensures),
+      rw (h, g, ← checked k, t .enum-told .given .1)
           (part-back 0 4 (slotOf (opened b)) _ (recordOf (opened b) .first) (c .before .before .before .store-word .ensures)),
     )
 

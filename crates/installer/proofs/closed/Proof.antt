@@ -1,4 +1,5 @@
 -- By the answer's two cases.
+use mathlib.Core.Path.{refl}
 use borrow.Author.Needs.{needs}
 use Rattle.installer.proofs.closed.Statement.{statement}
 use Rattle.installer.proofs.closed.Tie as tie
@@ -10,5 +11,5 @@ closed-spec =
     (λ c. search needs)
     (λ c. search needs)
     (λ c. search needs)
-    (λ c. rw (c .before .answer .given .1))
-    (λ c. rw (c .before .enum-told .given .1)))
+    (λ c. rw (c .before .answer .given .1) refl)
+    (λ c. rw (c .before .enum-told .given .1) refl))

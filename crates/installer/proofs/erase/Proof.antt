@@ -1,17 +1,16 @@
 -- Past the test the record is sound and a page is left, so the page lies in the slot; the part lent comes back with it erased.
 use Prim.Native.Nat.{ℕ, _+_, _*_, _≤_}
 use denote.Ref.{now}
-use mathlib.Core.Path.{_≡_}
+use mathlib.Core.Path.{_≡_, refl}
 use mathlib.Core.Bool.{true, false}
 use mathlib.Core.List.{List}
 use native.Mathlib.Omega.{arith}
 use native.Mathlib.Numerals.{add-one}
-use lib.Dec.{leb}
 use lib.ListN.{length}
 use borrow.Author.Needs.{needs}
 use borrow.Author.Tests.{ltb-true}
 use Rattle.flash.specs.Flash.{erasedBytes}
-use Rattle.installer.specs.Record.{pagesOf, erasing}
+use Rattle.installer.specs.Record.{erasing}
 use Rattle.installer.specs.declared.Session.{Session}
 use Rattle.installer.proofs.Facts.{Sound, passed, barred}
 use Rattle.installer.proofs.Parts.{part-back, part-long}
@@ -37,16 +36,15 @@ room d = let p = passed _ _ _ _ (d .before .before .sound .ensures) (d .if1 .lef
 returns : tie.Need-returns
 returns c =
     let a = c .before .before .before .before .before .args in
-    let e = barred _ _ _ _ (c .before .before .before .sound .ensures) (c .before .if1 .taken) in
-    (rw (add-one (a .s .pages), e) (c .refused .ensures), rw (add-one (a .s .pages), e))
+    let e : erasing (a .s) (length (now (a .slot))) ≡ false = rw (add-one (a .s .pages)) (barred _ _ _ _ (c .before .before .before .sound .ensures) (c .before .if1 .taken)) in
+    (rw e (c .refused .ensures), rw e)
 
 returns-2 : tie.Need-returns-2
 returns-2 c =
     let d : tie.Else1 = c .before .before .before .before .before .before .before in
-    let e = passed _ _ _ _ (d .before .before .sound .ensures) (d .if1 .left) .2 in (
-      rw (add-one (recordOf d .pages), e),
-      rw (add-one (recordOf d .pages), e)
-          (part-back (recordOf d .pages * 4096) 4096 (slotOf d) _ (erasedBytes 4096) (c .before .before .before .before .erase-page .ensures)),
+    let e : erasing (recordOf d) (length (slotOf d)) ≡ true = rw (add-one (recordOf d .pages)) (passed _ _ _ _ (d .before .before .sound .ensures) (d .if1 .left) .2) in (
+      rw e refl,
+      rw e (part-back (recordOf d .pages * 4096) 4096 (slotOf d) _ (erasedBytes 4096) (c .before .before .before .before .erase-page .ensures)),
     )
 
 pub erase-spec : {M : Type 1} → statement M

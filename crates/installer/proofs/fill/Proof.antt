@@ -3,7 +3,7 @@ use native.Mathlib.Omega.{arith}
 use Prim.Native.Nat.{ℕ, _/_, _*_, _-_, _≤_}
 use mathlib.Core.Path.{_≡_, sym, ap, _∙_}
 use mathlib.Core.List.{List}
-use mathlib.Core.Bool.{true}
+use mathlib.Core.Bool.{true, false}
 use borrow.Author.Tests.{ne-eqb, eq-eqb, lt-ltb, le-ltb, not-true, not-false}
 use lib.Dec.{eqb}
 use lib.ListN.{length, take, drop}
@@ -11,6 +11,7 @@ use denote.Ref.{now}
 use Rattle.installer.specs.declared.Session.{Session}
 use Rattle.flash.specs.Flash.{startsErased}
 use Rattle.installer.specs.Record.{pagesOf, filling}
+use Rattle.installer.specs.Calls.{inFirstWord}
 use Rattle.installer.proofs.Facts.{Sound, passed, barred}
 use Rattle.installer.proofs.Parts.{part-back, part-whole, part-long, word-fits}
 use borrow.Author.Needs.{needs}
@@ -65,7 +66,7 @@ returns-3 c =
     let j : tie.After-join = c .before .before .before in
     let h = ready (opened j) .2 in
     let e = eq-eqb _ _ (c .before .before .if2 .left) in
-    let f = lt-ltb _ _ (c .before .if3 .taken) in
+    let f : inFirstWord (recordOf (opened j)) ≡ true = lt-ltb _ _ (c .before .if3 .taken) in
     (rw (← j .before .takes .ensures, ← j .join .ensures, h, e, f) (c .took2 .ensures), rw (← j .before .takes .ensures, h, e, f))
 
 returns-4 : tie.Need-returns-4
@@ -74,7 +75,7 @@ returns-4 c =
     let j : tie.After-join = b .before .before .before .before .before in
     let h = ready (opened j) .2 in
     let e = eq-eqb _ _ (b .before .before .before .before .if2 .left) in
-    let f = le-ltb _ _ (b .before .before .before .if3 .left) in
+    let f : inFirstWord (recordOf (opened j)) ≡ false = le-ltb _ _ (b .before .before .before .if3 .left) in
     let g = free b ∙ not-true (b .starts-erased .result) (c .before .if4 .taken) in
     (rw (← j .before .takes .ensures, ← j .join .ensures, h, e, f, g) (c .refused2 .ensures), rw (← j .before .takes .ensures, h, e, f, g))
 
@@ -89,7 +90,7 @@ returns-5 c =
     let j : tie.After-join = b .before .before .before .before .before in
     let h = ready (opened j) .2 in
     let e = eq-eqb _ _ (b .before .before .before .before .if2 .left) in
-    let f = le-ltb _ _ (b .before .before .before .if3 .left) in
+    let f : inFirstWord (recordOf (opened j)) ≡ false = le-ltb _ _ (b .before .before .before .if3 .left) in
     let g = free b ∙ not-false (b .starts-erased .result) (c .before .before .before .before .before .if4 .left) in (
       rw (← j .before .takes .ensures, ← j .join .ensures, h, e, f, g) (c .took3 .ensures),
       rw (← j .before .takes .ensures, ← j .join .ensures, h, e, f, g)
