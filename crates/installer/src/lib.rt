@@ -143,7 +143,7 @@ fn sound(s: Session, n: usize) -> bool
 }
 
 // Whether all pages are erased and all bytes taken.
-fn full(s: Session, n: usize) -> bool
+pub fn full(s: Session, n: usize) -> bool
     ensures { λ r. ⌜ r ≡ full s n ⌝ }
 {
     sound(s, n) & ((s.pages == n / 4096) & (s.taken == s.file))

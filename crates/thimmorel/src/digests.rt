@@ -7,7 +7,7 @@ ghost use mathlib.Core.Path.{_≡_};
 ghost use Rattle.questions.specs.Questions.{vendorDigest, firmwareDigest};
 ghost use Rattle.thimmorel.specs.Words.{outcomeNumber, outcomeWhere, digestBytes};
 
-fn outcome_number(outcome: Outcome) -> u32
+pub fn outcome_number(outcome: Outcome) -> u32
     ensures { λ r. ⌜ r ≡ outcomeNumber outcome ⌝ }
 {
     match outcome {
@@ -16,7 +16,7 @@ fn outcome_number(outcome: Outcome) -> u32
     }
 }
 
-fn outcome_where(outcome: Outcome) -> [u32; 2]
+pub fn outcome_where(outcome: Outcome) -> [u32; 2]
     ensures { λ r. ⌜ r ≡ outcomeWhere outcome ⌝ }
 {
     match outcome {

@@ -3,7 +3,9 @@
 // An exported function is thin. It calls the proved library and carries the same promise.
 mod check;
 mod digests;
+mod install;
 mod parts;
+mod session;
 
 ghost use mathlib.Core.Path.{_≡_};
 ghost use Rattle.blake2s.specs.Rfc7693.{blake2sOf};

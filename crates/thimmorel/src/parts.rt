@@ -45,7 +45,7 @@ pub extern "C" fn thimmorel_parts(bytes: &[u8], number: u32, parts: &mut [usize;
     *parts = words;
 }
 
-fn flag(x: bool) -> u32
+pub fn flag(x: bool) -> u32
     ensures { λ r. ⌜ r ≡ flag x ⌝ }
 {
     if x { 1 } else { 0 }

@@ -1,3 +1,4 @@
+-- What the calls ensure: the answer of the check, and what `tell` leaves.
 use borrow.Author.Needs.{needs}
 use Rattle.thimmorel.proofs.check.thimmorel_check_slot.Statement.{statement}
 use Rattle.thimmorel.proofs.check.thimmorel_check_slot.Tie as tie

@@ -1,3 +1,4 @@
+-- By the cases of the outcome.
 use borrow.Author.Needs.{needs}
 use Rattle.thimmorel.proofs.digests.outcome_where.Statement.{statement}
 use Rattle.thimmorel.proofs.digests.outcome_where.Tie as tie

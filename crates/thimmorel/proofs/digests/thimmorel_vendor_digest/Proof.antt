@@ -1,3 +1,4 @@
+-- What the calls ensure: the answer of the question, and what `tell` leaves.
 use borrow.Author.Needs.{needs}
 use Rattle.thimmorel.proofs.digests.thimmorel_vendor_digest.Statement.{statement}
 use Rattle.thimmorel.proofs.digests.thimmorel_vendor_digest.Tie as tie

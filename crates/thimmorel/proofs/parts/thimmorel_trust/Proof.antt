@@ -1,3 +1,4 @@
+-- What the calls ensure: the field, its reading, and the words.
 use borrow.Author.Needs.{needs}
 use Rattle.thimmorel.proofs.parts.thimmorel_trust.Statement.{statement}
 use Rattle.thimmorel.proofs.parts.thimmorel_trust.Tie as tie

@@ -1,0 +1,15 @@
+-- What the calls ensure: the record that the words hold, the turn and the slot of `fill`, the count, and what `tell` leaves.
+use borrow.Author.Needs.{needs}
+use Rattle.thimmorel.proofs.install.thimmorel_fill.Statement.{statement}
+use Rattle.thimmorel.proofs.install.thimmorel_fill.Tie as tie
+
+pub thimmorel-fill-spec : {M : Type 1} → statement M
+thimmorel-fill-spec =
+    tie.close
+    (tie.spec
+    (λ c κs. search needs)
+    (λ c κs. search needs)
+    (λ c κs. search needs)
+    (λ c κs. search needs)
+    (λ c. search needs)
+    (λ c. ((cc), ((cc), ((cc), (cc))))))
