@@ -8,6 +8,9 @@
 
 #include <stddef.h>
 #include <stdint.h>
+#ifndef __cplusplus
+#include <stdbool.h>
+#endif
 
 #ifdef __cplusplus
 extern "C" {
@@ -17,7 +20,10 @@ extern "C" {
  *
  * # Thimmorel
  *
- * The library computes BLAKE2s (RFC 7693) without a key, with a digest of 32 bytes.
+ * The library is for a signer with one flash slot. It checks a firmware image, in a file or in the
+ * slot; it writes the two headers of an image; and it installs an image into the slot. Its digest
+ * is BLAKE2s (RFC 7693) without a key, of 32 bytes. It verifies no signature: a signature chip
+ * does, and its verdicts are inputs of a check.
  *
  * ## Linking
  *
@@ -31,16 +37,133 @@ extern "C" {
  *
  * ## Buffers
  *
- *  - A slice is passed as a pointer to its first byte and its length in bytes.
+ *  - A slice is passed as a pointer to its first byte and its length in bytes. Every length gets an
+ *    answer.
  *
  *  - A slice of length 0 may come with any pointer, `NULL` too. Nothing is read through it.
  *
- *  - An array of fixed size is passed as a pointer to its first byte, which must not be `NULL`.
+ *  - An array of fixed size is passed as a pointer to its first element, which must not be `NULL`.
  *
- *  - No buffer needs an alignment.
+ *  - Bytes need no alignment. An array of `uint32_t` is aligned as C asks for.
  *
  *  - Buffers of one call must not overlap, and nobody else may write to them during the call.
+ *
+ * ## Answers
+ *
+ * A call that can refuse returns a number: 0 is success, and `enum thimmorel_number` lists the
+ * rest. A refused call changes no slot byte, no record and no output, with three exceptions:
+ * `where` is always written, a refused thimmorel_begin() writes its record, and a thimmorel_close()
+ * that the check refuses ends the session.
+ *
+ * `where` is two words that tell where a check found the fault: the part, one of
+ * `enum thimmorel_part`, and the chunk, which is 0 except at the numbers 14 and 15. Both are 0 at
+ * success.
+ *
+ * ## The image
+ *
+ * An image is a vendor header of v bytes, a firmware header of 1,024 bytes, and code. Integers are
+ * least byte first. A time is an unsigned number of 32 bits, on the scale that the expiries have.
+ *
+ * The vendor header:
+ *
+ * | offset | length | field |
+ * |---|---|---|
+ * | 0 | 4 | `TRZV` |
+ * | 4 | 4 | its length v: a multiple of 512, from 512 to 65,536 |
+ * | 8 | 4 | expiry; 0 is never |
+ * | 12, 13 | 1 each | major and minor version |
+ * | 14, 15 | 1 each | vsig_m and vsig_n: how many of how many keys sign firmware |
+ * | 16 | 2 | vtrust, see thimmorel_trust() |
+ * | 18 | 14 | zero |
+ * | 32 | 32 * vsig_n | keys |
+ * | then | 1 | length of the string |
+ * | then | 0 to 255 | string |
+ * | then | 0 to 3 | zero, up to the next offset that is a multiple of 4: the picture's start |
+ * | then | up to v - 65 | picture area: opaque bytes |
+ * | v - 65 | 1 | sigmask: bit i says that key i signed |
+ * | v - 64 | 64 | sig |
+ *
+ * The firmware header:
+ *
+ * | offset | length | field |
+ * |---|---|---|
+ * | 0 | 4 | `TRZF` |
+ * | 4 | 4 | its length, 1,024 |
+ * | 8 | 4 | expiry; 0 is never |
+ * | 12 | 4 | code length |
+ * | 16 | 4 | version: major, minor, patch, build |
+ * | 20 | 4 | fix version, likewise |
+ * | 24 | 8 | zero |
+ * | 32 | 16 * 32 | hashes 1 to 16 |
+ * | 544 | 415 | zero |
+ * | 959 | 1 | sigmask |
+ * | 960 | 64 | sig |
+ *
+ * Code fills chunks in order. Chunk 1 has room for 131,072 - 1,024 - v bytes, chunks 2 to 16 for
+ * 131,072 each; the last used one may be partial. Hash k is the digest of the code in chunk k, or
+ * all zero if chunk k holds none.
  */
+
+/** \brief What the calls return. Each number has one meaning in all calls. */
+enum thimmorel_number {
+	/** Success: accepted, answered, written, or Done. */
+	THIMMOREL_OK = 0,
+	/** The bytes do not start with `TRZV`. */
+	THIMMOREL_NO_VENDOR_MAGIC = 1,
+	/** The bytes end before the part does. */
+	THIMMOREL_TOO_SHORT = 2,
+	/** The length of the vendor header is no multiple of 512 from 512 to 65,536. */
+	THIMMOREL_VENDOR_LENGTH = 3,
+	/** The vendor header's m of n keys are not 1 <= m <= n <= 8. */
+	THIMMOREL_VENDOR_KEYS = 4,
+	/** The vendor string leaves no room for the signature. */
+	THIMMOREL_STRING_TOO_LONG = 5,
+	/** A byte of the header that must be zero is not. */
+	THIMMOREL_NOT_ZERO = 6,
+	/** The time is above the header's expiry. */
+	THIMMOREL_EXPIRED = 7,
+	/** The sigmask names a key that there is not, or too few keys. */
+	THIMMOREL_SIGMASK = 8,
+	/** The verdict on the header's signature is no. */
+	THIMMOREL_NOT_SIGNED = 9,
+	/** The firmware header does not start with `TRZF`. */
+	THIMMOREL_NO_FIRMWARE_MAGIC = 10,
+	/** The firmware header does not give its length as 1,024. */
+	THIMMOREL_FIRMWARE_LENGTH = 11,
+	/** The code length is 0, no multiple of 4, or more than an image holds. */
+	THIMMOREL_CODE_LENGTH = 12,
+	/** Bytes follow the code: any at all in a file, one that is not 255 in a slot. */
+	THIMMOREL_BYTES_FOLLOW = 13,
+	/** The code in a chunk does not have the digest that the firmware header gives. */
+	THIMMOREL_CHUNK_DIGEST = 14,
+	/** The hash of a chunk without code is not all zero. */
+	THIMMOREL_UNUSED_HASH = 15,
+	/** The caller's policy of m of n keys is not 1 <= m <= n <= 8. */
+	THIMMOREL_POLICY = 16,
+	/** Chunk 1 has no room for code. No vendor header that passes S4 leads to it. */
+	THIMMOREL_NO_ROOM = 17,
+	/** The file length is no multiple of 4, under 1,540, or above the slot's. */
+	THIMMOREL_FILE_LENGTH = 18,
+	/** The call does not fit the session, the slot is not as long as at its begin, or the record's
+	    numbers cannot be. */
+	THIMMOREL_WRONG_PHASE = 19,
+	/** The keys are not 32 bytes for each of n, or the string is over 255 bytes. */
+	THIMMOREL_WRITER_LENGTHS = 20,
+	/** The output is shorter than the header. */
+	THIMMOREL_OUTPUT_TOO_SHORT = 21,
+	/** The slot's length is no multiple of 4,096 from 4,096 to 2,097,152. */
+	THIMMOREL_SLOT_LENGTH = 22,
+	/** The word about to be stored over is not erased. */
+	THIMMOREL_NOT_ERASED = 23
+};
+
+/** \brief The part of an image that a check's refusal is about: the first word of `where`. */
+enum thimmorel_part {
+	THIMMOREL_NO_PART = 0,
+	THIMMOREL_VENDOR_HEADER = 1,
+	THIMMOREL_FIRMWARE_HEADER = 2,
+	THIMMOREL_CODE = 3
+};
 
 /**
  * \brief Compute a BLAKE2s digest.
@@ -54,6 +177,355 @@ extern "C" {
  * \param digest   the buffer that receives the 32 bytes of the digest.
  */
 void thimmorel_digest(const uint8_t *bytes, size_t length, uint8_t digest[32]);
+
+/**
+ * \brief Check an image that is a file: nothing may follow the code.
+ *
+ * The first step that fails gives the answer:
+ *
+ * | step | fails if | number | part |
+ * |---|---|---|---|
+ * | S1 | fewer than 4 bytes, or not `TRZV` | 1 | 1 |
+ * | S2 | not 1 <= m <= n <= 8 | 16 | 0 |
+ * | S3 | fewer than 512 bytes | 2 | 1 |
+ * | S4 | v no multiple of 512, below 512 or above 65,536 | 3 | 1 |
+ * | S5 | fewer than v bytes | 2 | 1 |
+ * | S6 | not 1 <= vsig_m <= vsig_n <= 8 | 4 | 1 |
+ * | S7 | picture start + 65 above v | 5 | 1 |
+ * | S8 | a byte that must be zero is not | 6 | 1 |
+ * | S9 | expiry not 0 and time above expiry | 7 | 1 |
+ * | S10 | sigmask has a bit at n or higher, or fewer than m ones | 8 | 1 |
+ * | S11 | `vendor` is false | 9 | 1 |
+ * | S12 | fewer than v + 1,024 bytes | 2 | 2 |
+ * | S13 | not `TRZF` | 10 | 2 |
+ * | S14 | length of the firmware header not 1,024 | 11 | 2 |
+ * | S15 | chunk 1 has no room | 17 | 2 |
+ * | S16 | code length 0, no multiple of 4, or above 2,097,152 - 1,024 - v | 12 | 2 |
+ * | S17 | a byte that must be zero is not | 6 | 2 |
+ * | S18 | expiry not 0 and time above expiry | 7 | 2 |
+ * | S19 | sigmask has a bit at vsig_n or higher, or fewer than vsig_m ones | 8 | 2 |
+ * | S20 | `firmware` is false | 9 | 2 |
+ * | S21 | fewer than v + 1,024 + code length bytes | 2 | 3 |
+ * | S22 | more bytes than that | 13 | 3 |
+ * | S23 | lowest chunk whose hash is wrong, if the chunk holds code | 14 | 3 |
+ * | S23 | the same, if it holds none | 15 | 3 |
+ *
+ * The bytes are read and not changed.
+ *
+ * \param bytes      the file.
+ * \param length     the number of bytes.
+ * \param time       the time now.
+ * \param m          how many keys must have signed the vendor header.
+ * \param n          how many keys there are for the vendor header.
+ * \param vendor     the chip's verdict on the vendor header's signature.
+ * \param firmware   the chip's verdict on the firmware header's signature.
+ * \param where      always written: the part and the chunk of a refusal, or 0 and 0.
+ * \param image      written on success alone: v, the code length, the version and the fix version.
+ *                   A version is major + 256 * minor + 65,536 * patch + 16,777,216 * build.
+ * \return 0 if the image is accepted, or the number of the step that fails.
+ */
+uint32_t thimmorel_check_file(const uint8_t *bytes, size_t length, uint32_t time, uint32_t m,
+	uint32_t n, bool vendor, bool firmware, uint32_t where[2], uint32_t image[4]);
+
+/**
+ * \brief Check an image that stands in a slot: the bytes after the code must be erased.
+ *
+ * This is the check to make before the firmware is started. Arguments and answers are those of
+ * thimmorel_check_file(), and so are the steps but one: S22 fails if a byte after the code is not
+ * 255. The check looks at all bytes that it is lent, and asks nothing of the slot's length.
+ */
+uint32_t thimmorel_check_slot(const uint8_t *bytes, size_t length, uint32_t time, uint32_t m,
+	uint32_t n, bool vendor, bool firmware, uint32_t where[2], uint32_t image[4]);
+
+/**
+ * \brief Tell where the parts of a checked image stand.
+ *
+ * The call follows a check of the same bytes and takes its number. After a refusal all six words
+ * are 0. After an acceptance they are the start and the length of the string, of the picture area
+ * and of the code, counted from the first of the bytes. The picture area runs up to the sigmask.
+ *
+ * Bytes that no check accepted have no parts to tell: then pass the number of the refusal.
+ *
+ * \param bytes    the bytes that were checked.
+ * \param length   the number of bytes.
+ * \param number   what the check returned.
+ * \param parts    always written: string start, string length, picture area start, its length,
+ *                 code start, code length.
+ */
+void thimmorel_parts(const uint8_t *bytes, size_t length, uint32_t number, size_t parts[6]);
+
+/**
+ * \brief Compute the digest of the vendor header that its signature is over.
+ *
+ * It is the digest of all v bytes of the header, the last 65 (sigmask and sig) taken as zero. The
+ * header must pass S1 and S3 to S8 of thimmorel_check_file(). The first that fails gives the
+ * answer: 1, 2, 3, 2, 4, 5 or 6, with part 1. No time, policy or verdict matters, and nothing after
+ * the header is looked at. The bytes are not changed.
+ *
+ * \param bytes    the image, or its start.
+ * \param length   the number of bytes.
+ * \param where    always written: the part and the chunk of a refusal, or 0 and 0. The chunk is 0.
+ * \param digest   written on success alone: the 32 bytes of the digest.
+ * \return 0, or the number of the step that fails.
+ */
+uint32_t thimmorel_vendor_digest(const uint8_t *bytes, size_t length, uint32_t where[2],
+	uint8_t digest[32]);
+
+/**
+ * \brief Compute the digest of the firmware header that its signature is over.
+ *
+ * It is the digest of the 1,024 bytes of the header, the last 65 taken as zero. Both headers count:
+ * S1, S3 to S8 and then S12 to S17 must hold. The first that fails gives the answer, as in
+ * thimmorel_vendor_digest() or, with part 2: 2, 10, 11, 17, 12 or 6. The code need not be there.
+ *
+ * \param bytes    the image, or its start.
+ * \param length   the number of bytes.
+ * \param where    always written: the part and the chunk of a refusal, or 0 and 0. The chunk is 0.
+ * \param digest   written on success alone: the 32 bytes of the digest.
+ * \return 0, or the number of the step that fails.
+ */
+uint32_t thimmorel_firmware_digest(const uint8_t *bytes, size_t length, uint32_t where[2],
+	uint8_t digest[32]);
+
+/**
+ * \brief Read how far the vendor is trusted.
+ *
+ * A feature is active where its bit of vtrust is unset. Bits 0 to 3 add 1, 2, 4 and 8 seconds of
+ * waiting; bit 4 is a red background, 5 that a click is needed, 6 that the string is shown, 7 that
+ * the pairing secret is allowed. Bits 8 to 15 have no reading. The call is meant for bytes that a
+ * check accepted, and cannot fail: a byte of vtrust that is not there counts as 0.
+ *
+ * \param bytes    the image, or its start.
+ * \param length   the number of bytes.
+ * \param trust    always written: the seconds, then 1 or 0 for red background, click needed, string
+ *                 shown and secret allowed.
+ */
+void thimmorel_trust(const uint8_t *bytes, size_t length, uint32_t trust[5]);
+
+/**
+ * \brief Write a vendor header.
+ *
+ * Its length v is the least multiple of 512 that holds the fields; zeros follow the picture up to
+ * the sigmask. The sigmask is not judged. Refusals, in order:
+ *
+ *  - 4 if not 1 <= m <= n <= 8;
+ *
+ *  - 20 if the keys are not 32 * n bytes, or the string is over 255 bytes;
+ *
+ *  - 3 if v would be above 65,536;
+ *
+ *  - 21 if the output is shorter than v bytes.
+ *
+ * A picture area that is written again gives the same v.
+ *
+ * \param expiry           the last time at which the header is good, or 0.
+ * \param major            major version.
+ * \param minor            minor version.
+ * \param m                vsig_m, how many keys must sign firmware.
+ * \param n                vsig_n, how many keys there are.
+ * \param vtrust           see thimmorel_trust().
+ * \param sigmask          which keys signed this header.
+ * \param keys             the keys, one after the other.
+ * \param keys_length      the number of their bytes.
+ * \param string           the string.
+ * \param string_length    the number of its bytes.
+ * \param picture          the picture, or a whole picture area.
+ * \param picture_length   the number of its bytes.
+ * \param sig              the signature of this header.
+ * \param out              the output. On success its first v bytes are the header, and the bytes
+ *                         past them stay. After a refusal all of it stays.
+ * \param out_length       the number of its bytes.
+ * \param written          written on success alone: v.
+ * \return 0, or the refusal.
+ */
+uint32_t thimmorel_write_vendor(uint32_t expiry, uint8_t major, uint8_t minor, uint8_t m,
+	uint8_t n, uint16_t vtrust, uint8_t sigmask, const uint8_t *keys, size_t keys_length,
+	const uint8_t *string, size_t string_length, const uint8_t *picture, size_t picture_length,
+	const uint8_t sig[64], uint8_t *out, size_t out_length, uint32_t written[1]);
+
+/**
+ * \brief Write a firmware header for code that will follow it.
+ *
+ * The sigmask is not judged. Refusals, in order:
+ *
+ *  - 3 if v is no multiple of 512, below 512 or above 65,536;
+ *
+ *  - 12 if the code's length is 0, no multiple of 4, or above 2,097,152 - 1,024 - v;
+ *
+ *  - 21 if the output is shorter than 1,024 bytes.
+ *
+ * \param v             the length of the vendor header that will stand before this one.
+ * \param expiry        the last time at which the header is good, or 0.
+ * \param version       major, minor, patch and build.
+ * \param fix           the fix version, likewise.
+ * \param code          the code, which is read and not changed.
+ * \param code_length   the number of its bytes.
+ * \param sigmask       which of the vendor's keys signed this header.
+ * \param sig           the signature of this header.
+ * \param out           the output. On success its first 1,024 bytes are the header, and the bytes
+ *                      past them stay. After a refusal all of it stays.
+ * \param out_length    the number of its bytes.
+ * \param written       written on success alone: 1,024.
+ * \return 0, or the refusal.
+ */
+uint32_t thimmorel_write_firmware(uint32_t v, uint32_t expiry, const uint8_t version[4],
+	const uint8_t fix[4], const uint8_t *code, size_t code_length, uint8_t sigmask,
+	const uint8_t sig[64], uint8_t *out, size_t out_length, uint32_t written[1]);
+
+/**
+ * # Installing
+ *
+ * A slot is memory of the caller's: a multiple of 4,096 bytes, from 4,096 to 2,097,152. The calls
+ * change it by two operations: they erase one page of 4,096 bytes to 255, or store one aligned word
+ * of 4 bytes over an erased one. Each call makes at most one of them, so that a power cut falls
+ * between two calls if an operation happens wholly or not at all.
+ *
+ * A session is thimmorel_begin(), one thimmorel_erase() for each page of the slot,
+ * thimmorel_fill() until all bytes of the file are taken, thimmorel_ask() if the digests are
+ * wanted, and thimmorel_close(). The first word of the file stays in the record until the close
+ * stores it. Until then the slot starts with an erased word, and thimmorel_check_slot() refuses
+ * it with 1. Once a close has answered 0 the slot holds the file and erased bytes after it. After a
+ * power cut, begin again.
+ *
+ * ## The record
+ *
+ * A session is kept in a record of 16 words that the caller owns. It is opaque: pass it from call
+ * to call as it is. It is stable too: it may be copied, stored and brought back, and its words keep
+ * their meaning in later versions.
+ *
+ * | word | meaning |
+ * |---|---|
+ * | 0 | 1 if the session is open, 0 if it is over |
+ * | 1 | length of the slot |
+ * | 2 | length of the file |
+ * | 3 | pages erased |
+ * | 4 | bytes taken |
+ * | 5 | operations made since begin; at Done they are slot / 4,096 + file / 4 |
+ * | 6 | first word of the file, once it is complete; least byte first |
+ * | 7 | word in progress: the bytes taken of it; least byte first |
+ * | 8 to 15 | reserved: begin writes 0, and no call reads them |
+ *
+ * Any record gets an answer. A call answers 19
+ *
+ *  - if word 0 is not 1;
+ *
+ *  - if the slot is not as long as at begin;
+ *
+ *  - if the record's numbers cannot be: more pages erased than there are, or bytes taken with pages
+ *    still to erase; more bytes taken than the file has; a slot or file length that begin refuses;
+ *    operations other than the pages erased plus the words stored, which are the complete words
+ *    without the first;
+ *
+ *  - if its own turn has not come or is over, as each call says below.
+ */
+
+/**
+ * \brief Begin to install a file of a given length.
+ *
+ * The slot is neither read nor changed; its length counts. Refusals, in order:
+ *
+ *  - 22 if the slot's length is no multiple of 4,096, below 4,096 or above 2,097,152;
+ *
+ *  - 18 if the file's length is no multiple of 4, under 1,540, or above the slot's length.
+ *
+ * \param slot          the slot.
+ * \param slot_length   the number of its bytes.
+ * \param file_length   the number of bytes of the file to come.
+ * \param record        always written: on success an open session with nothing done, after a
+ *                      refusal a session that is over, all words 0.
+ * \return 0, or the refusal.
+ */
+uint32_t thimmorel_begin(const uint8_t *slot, size_t slot_length, size_t file_length,
+	uint32_t record[16]);
+
+/**
+ * \brief Erase the next page of the slot, from the first up.
+ *
+ * Refusal: 19, also if all pages are erased.
+ *
+ * \param record        the session. On success it counts one page and one operation more. After a
+ *                      refusal it stays.
+ * \param slot          the slot. On success the bytes of the next page are 255. After a refusal it
+ *                      stays.
+ * \param slot_length   the number of its bytes.
+ * \return 0, or 19.
+ */
+uint32_t thimmorel_erase(uint32_t record[16], uint8_t *slot, size_t slot_length);
+
+/**
+ * \brief Give the next bytes of the file.
+ *
+ * The call takes the first bytes of the piece: as many as complete the current word, as the piece
+ * has and as the file still wants, so 0 to 4. A word that they complete is stored at its place,
+ * except the first, which the record keeps. Call again with the rest of the piece. An empty piece,
+ * and any piece once all bytes are taken, takes 0 and changes nothing. Refusals, in order:
+ *
+ *  - 19, also while a page is not erased;
+ *
+ *  - 23 if the call would store a word and the slot's word at its place is not four bytes of 255.
+ *
+ * \param record         the session. On success it counts the bytes taken, and one operation if a
+ *                       word was stored. After a refusal it stays.
+ * \param piece          the next bytes of the file. They are not changed.
+ * \param piece_length   the number of bytes in the piece.
+ * \param slot           the slot. After a refusal it stays.
+ * \param slot_length    the number of its bytes.
+ * \param taken          written on success alone: how many bytes of the piece were taken.
+ * \return 0, or the refusal.
+ */
+uint32_t thimmorel_fill(uint32_t record[16], const uint8_t *piece, size_t piece_length,
+	uint8_t *slot, size_t slot_length, uint32_t taken[1]);
+
+/**
+ * \brief Compute the two digests that the signatures of the new file are over.
+ *
+ * The call answers thimmorel_vendor_digest() and thimmorel_firmware_digest() for the file: the
+ * slot's first bytes, as many as the file has, with the first word from the record. The signature
+ * chip can then give the verdicts for thimmorel_close(). Record and slot are not changed.
+ *
+ * Refusal: 19, also unless all bytes are taken. A question that is refused is no refusal of this
+ * call.
+ *
+ * \param record        the session.
+ * \param slot          the slot.
+ * \param slot_length   the number of its bytes.
+ * \param answers       written on success alone: number, part and chunk of the vendor question,
+ *                      then of the firmware question.
+ * \param digests       written on success alone: the vendor header's 32 bytes, then the firmware
+ *                      header's. They are zeros for a question that is refused.
+ * \return 0, or 19.
+ */
+uint32_t thimmorel_ask(const uint32_t record[16], const uint8_t *slot, size_t slot_length,
+	uint32_t answers[6], uint8_t digests[64]);
+
+/**
+ * \brief Check the new file and, if it is accepted, finish the install.
+ *
+ * The check is thimmorel_check_file() of the file: the slot's first bytes, as many as the file has,
+ * with the first word from the record. If it accepts, the first word is stored, the session is
+ * over, and the answer is 0, Done: thimmorel_check_slot() with the same time, policy and verdicts
+ * accepts the slot. Refusals, in order:
+ *
+ *  - 19, also unless all bytes are taken. The session stays as it is;
+ *
+ *  - 23 if the slot's first word is not four bytes of 255. The session stays as it is;
+ *
+ *  - the check's. The slot stays and the session is over.
+ *
+ * \param record        the session. Where the check ran, word 0 is 0 afterwards. At Done it counts
+ *                      one operation more. The other words stay.
+ * \param slot          the slot. At Done its first word is the file's. After a refusal it stays.
+ * \param slot_length   the number of its bytes.
+ * \param time          the time now.
+ * \param m             how many keys must have signed the vendor header.
+ * \param n             how many keys there are for the vendor header.
+ * \param vendor        the chip's verdict on the vendor header's signature.
+ * \param firmware      the chip's verdict on the firmware header's signature.
+ * \param where         always written: the part and the chunk of the check's refusal, or 0 and 0.
+ * \return 0, or the refusal.
+ */
+uint32_t thimmorel_close(uint32_t record[16], uint8_t *slot, size_t slot_length, uint32_t time,
+	uint32_t m, uint32_t n, bool vendor, bool firmware, uint32_t where[2]);
 
 #ifdef __cplusplus
 }

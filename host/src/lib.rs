@@ -3,7 +3,22 @@
 
 #![warn(missing_docs)]
 
-mod ffi;
+mod check;
+pub mod ffi;
+mod image;
+mod questions;
+mod refusal;
+mod session;
+mod trust;
+mod writer;
+
+pub use check::{check_file, check_slot, Inputs};
+pub use image::{Image, Version};
+pub use questions::{firmware_digest, vendor_digest};
+pub use refusal::Refusal;
+pub use session::{Digests, Session};
+pub use trust::Trust;
+pub use writer::{write_firmware, write_vendor, FirmwareHeader, VendorHeader};
 
 /// The BLAKE2s digest of the bytes: RFC 7693, with no key and 32 bytes of output.
 ///

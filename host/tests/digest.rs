@@ -3,13 +3,12 @@
 //! and the header from C and C++.
 
 mod common;
-#[path = "../src/ffi.rs"]
-mod ffi;
 mod model;
 
 use common::random::Random;
 use common::{c, hashlib, hex};
 use model::blake2s::{blake2s, blake2s_keyed};
+use thimmorel::ffi;
 
 const EMPTY: &str = "69217a3079908094e11121d042354a7c1f55b6482ca1a51e1b250dfd1ed0eef9";
 const ABC: &str = "508c5e8c327c14e2e1a72ba34eeb452f37458b209ed63a294d999b4c86675982";

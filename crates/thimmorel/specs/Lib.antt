@@ -1,3 +1,4 @@
 -- What the contracts of the exported calls cite.
 pub mod Words
 pub mod Session
+pub mod Headers

@@ -55,7 +55,7 @@ fn reply_where(reply: Reply) -> [u32; 2]
     }
 }
 
-fn count(k: usize) -> [u32; 1]
+pub fn count(k: usize) -> [u32; 1]
     ensures { λ r. ⌜ r ≡ k % 4294967296 ∷ [] ⌝ }
 {
     [low(k)]

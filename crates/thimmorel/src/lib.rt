@@ -6,6 +6,7 @@ mod digests;
 mod install;
 mod parts;
 mod session;
+mod writers;
 
 ghost use mathlib.Core.Path.{_≡_};
 ghost use Rattle.blake2s.specs.Rfc7693.{blake2sOf};

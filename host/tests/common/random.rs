@@ -21,6 +21,23 @@ impl Random {
         (self.next() % (limit as u64 + 1)) as usize
     }
 
+    pub fn word(&mut self) -> u32 {
+        self.next() as u32
+    }
+
+    pub fn byte(&mut self) -> u8 {
+        self.next() as u8
+    }
+
+    /// True once in `count` times.
+    pub fn one_in(&mut self, count: usize) -> bool {
+        self.up_to(count - 1) == 0
+    }
+
+    pub fn pick<T: Copy>(&mut self, choices: &[T]) -> T {
+        choices[self.up_to(choices.len() - 1)]
+    }
+
     pub fn bytes(&mut self, length: usize) -> Vec<u8> {
         let mut bytes = Vec::with_capacity(length + 8);
         while bytes.len() < length {

@@ -1,0 +1,209 @@
+//! Lists of calls after one begin: most of them in turn, the rest at any time, and the list may
+//! end anywhere. On a slot that nobody else writes, "done means landed" is watched after each.
+
+use crate::both::{Both, AFTER};
+use crate::common::random::Random;
+use crate::draft::{any_inputs, slot_length, Draft};
+use crate::faults::faulty_draft;
+use crate::landed::Landed;
+use crate::model::image::{Form, Inputs};
+use crate::tally::{cases, outcome, outcome_of_close, Outcome, Tally, NOT_ERASED, OUTCOMES};
+
+enum Call {
+    Erase,
+    Fill(Vec<u8>),
+    Ask,
+    Close(Inputs),
+}
+
+/// What one list is about: the file that is given and the inputs that fit it.
+struct Plan {
+    file: Vec<u8>,
+    inputs: Inputs,
+}
+
+impl Plan {
+    fn new(random: &mut Random) -> Plan {
+        let draft = faulty_draft(1, Form::File, random);
+        Plan {
+            file: draft.file(),
+            inputs: draft.inputs,
+        }
+    }
+}
+
+/// What the slot held before: erased, an image of its own, or anything.
+fn found(length: usize, random: &mut Random) -> Vec<u8> {
+    match random.up_to(2) {
+        0 => vec![255; length],
+        1 => random.bytes(length),
+        _ => {
+            let mut slot = Draft::small(Form::File, random).file();
+            slot.resize(length, 255);
+            slot
+        }
+    }
+}
+
+/// The next bytes of the file, as many as a caller may happen to have.
+fn piece(plan: &Plan, given: usize, random: &mut Random) -> Vec<u8> {
+    let length = random.pick(&[0, 1, 2, 3, 4, 4, 4, 5, 100]);
+    let rest = &plan.file[given..];
+    let mut piece = rest[..length.min(rest.len())].to_vec();
+    piece.resize(length, 0x77);
+    piece
+}
+
+/// The call whose turn it is, mostly.
+fn next_call(plan: &Plan, landed: &Landed, random: &mut Random) -> Call {
+    let turn = match (landed.is_erasing(), landed.all_given()) {
+        _ if random.one_in(10) => random.up_to(3),
+        (true, _) => 0,
+        (false, false) => 1,
+        (false, true) => random.pick(&[2, 3]),
+    };
+    match turn {
+        0 => Call::Erase,
+        1 => Call::Fill(piece(plan, landed.given(), random)),
+        2 => Call::Ask,
+        _ if random.one_in(8) => Call::Close(any_inputs(random)),
+        _ => Call::Close(plan.inputs),
+    }
+}
+
+/// Makes the call by both, and shows its answer to the watcher.
+fn make(call: &Call, both: &mut Both, landed: &mut Landed) -> Outcome {
+    match call {
+        Call::Erase => {
+            let answer = both.erase();
+            landed.erase(answer, both.slot());
+            outcome("erase", &answer)
+        }
+        Call::Fill(piece) => {
+            let answer = both.fill(piece);
+            landed.fill(piece, answer, both.slot());
+            outcome("fill", &answer)
+        }
+        Call::Ask => {
+            let answer = both.ask();
+            landed.ask(both.slot());
+            outcome("ask", &answer)
+        }
+        Call::Close(inputs) => {
+            let answer = both.close(inputs);
+            landed.close(inputs, answer, both.slot());
+            outcome_of_close(&answer)
+        }
+    }
+}
+
+#[test]
+fn done_means_landed() {
+    let mut random = Random::new(601);
+    let mut tally = Tally::new("calls in lists");
+    for _ in 0..cases(2_500) {
+        let plan = Plan::new(&mut random);
+        let found = found(slot_length(plan.file.len(), &mut random), &mut random);
+        let (refused, mut both) = Both::begin(&found, plan.file.len());
+        assert_eq!(refused, None);
+        let mut landed = Landed::after_begin(refused, &found, plan.file.len());
+        for _ in 0..random.up_to(2 * plan.file.len()) {
+            let call = next_call(&plan, &landed, &mut random);
+            tally.count(make(&call, &mut both, &mut landed));
+            if landed.is_over() && random.one_in(16) {
+                break;
+            }
+        }
+    }
+    tally.assert_exactly(5, &OUTCOMES);
+}
+
+/// A list after a refused begin changes nothing.
+#[test]
+fn calls_after_a_refused_begin() {
+    let mut random = Random::new(602);
+    let mut tally = Tally::new("calls after a refused begin");
+    for _ in 0..cases(2_000) {
+        let plan = Plan::new(&mut random);
+        let found = random.bytes(4_096);
+        let file_length = random.pick(&[0, 1_536, 1_541, 4_100]);
+        let (refused, mut both) = Both::begin(&found, file_length);
+        assert_eq!(refused, Some(18));
+        let mut landed = Landed::after_begin(refused, &found, file_length);
+        for turn in 0..4 {
+            let call = match turn {
+                0 => Call::Erase,
+                1 => Call::Fill(piece(&plan, 0, &mut random)),
+                2 => Call::Ask,
+                _ => Call::Close(plan.inputs),
+            };
+            tally.count(make(&call, &mut both, &mut landed));
+        }
+    }
+    let refused = ["erase", "fill", "ask", "close"].map(|call| (call, 19, 0));
+    tally.assert_exactly(2_000, &refused);
+}
+
+/// Writes a byte into the slot, mostly where a call is about to store. Gives what stood there.
+fn meddle(both: &mut Both, given: usize, random: &mut Random) -> (usize, u8) {
+    let length = both.slot().len();
+    let (first, current) = (random.up_to(3), (given / 4 * 4 + random.up_to(3)) % length);
+    let any = random.up_to(length - 1);
+    let at = random.pick(&[first, current, current, any]);
+    let before = both.slot()[at];
+    both.poke(at, random.pick(&[0, 127, 254, 255]));
+    (at, before)
+}
+
+/// Lends another length for one call, or the right one.
+fn lend(both: &mut Both, random: &mut Random) {
+    let length = both.slot().len();
+    let wrong = random.pick(&[0, length - 4_096, length - 4, length + AFTER]);
+    both.lend(if random.one_in(4) { wrong } else { length });
+}
+
+/// One call of an install, the one whose turn it is. Gives the bytes taken.
+fn call_in_turn(plan: &Plan, given: usize, both: &mut Both, tally: &mut Tally<Outcome>) -> usize {
+    if given < plan.file.len() {
+        let answer = both.fill(&plan.file[given..]);
+        tally.count(outcome("fill", &answer));
+        return answer.unwrap_or(0);
+    }
+    tally.count(outcome("ask", &both.ask()));
+    tally.count(outcome_of_close(&both.close(&plan.inputs)));
+    0
+}
+
+/// With a slot that others write, the archive still answers as the model does. What was written is
+/// mostly put back after the call, so that the install goes on.
+#[test]
+fn meddled_slots() {
+    let mut random = Random::new(603);
+    let mut tally = Tally::new("calls with meddling");
+    for _ in 0..cases(1_500) {
+        let plan = Plan::new(&mut random);
+        let found = found(slot_length(plan.file.len(), &mut random), &mut random);
+        let (_, mut both) = Both::begin(&found, plan.file.len());
+        for _ in 0..found.len() / 4_096 {
+            tally.count(outcome("erase", &both.erase()));
+        }
+        let mut given = 0;
+        let every = random.pick(&[2, 20, 200]);
+        for _ in 0..plan.file.len() / 4 + 40 {
+            if random.one_in(every) {
+                let (at, before) = meddle(&mut both, given, &mut random);
+                lend(&mut both, &mut random);
+                given += call_in_turn(&plan, given, &mut both, &mut tally);
+                both.lend(found.len());
+                if !random.one_in(100) {
+                    both.poke(at, before);
+                }
+            } else {
+                given += call_in_turn(&plan, given, &mut both, &mut tally);
+            }
+        }
+    }
+    let in_turn = [("fill", 0, 0), ("ask", 0, 0), ("close", 0, 0)];
+    let out_of_turn = [("fill", 19, 0), ("ask", 19, 0), ("close", 19, 0)];
+    tally.assert_seen(100, &[&NOT_ERASED[..], &in_turn, &out_of_turn].concat());
+}

@@ -1,0 +1,191 @@
+//! Well-formed images from the model's writers, with fields drawn at random. A draft keeps the
+//! pieces of an image apart, so that a fault can be put into one of them.
+
+use crate::common::random::Random;
+use crate::model::image::{Form, Inputs};
+use crate::model::writer::{firmware_header, vendor_header, FirmwareFields, VendorFields};
+
+/// An image in pieces, and inputs with which it is accepted.
+#[derive(Clone, Debug)]
+pub struct Draft {
+    pub fields: VendorFields,
+    pub vendor: Vec<u8>,
+    pub firmware: Vec<u8>,
+    pub code: Vec<u8>,
+    pub tail: Vec<u8>,
+    pub inputs: Inputs,
+    /// How many of the bytes are lent.
+    pub cut: usize,
+}
+
+impl Draft {
+    /// With a few words of code, so that a check is quick.
+    pub fn small(form: Form, random: &mut Random) -> Draft {
+        let code = 4 + 4 * random.up_to(15);
+        Draft::with_code(form, |_| code, random)
+    }
+
+    /// Of 1,540 bytes, before a tail. Its string has padding after it.
+    pub fn smallest(form: Form, random: &mut Random) -> Draft {
+        loop {
+            let draft = Draft::with_code(form, |_| 4, random);
+            if draft.v() == 512 && draft.fields.string.len() % 4 == 1 {
+                return draft;
+            }
+        }
+    }
+
+    /// With as much code as `code_length` gives for v.
+    pub fn with_code(
+        form: Form,
+        code_length: impl Fn(usize) -> usize,
+        random: &mut Random,
+    ) -> Draft {
+        Draft::accepted_with(inputs(random), form, code_length, random)
+    }
+
+    /// With inputs that are given.
+    pub fn accepted_with(
+        inputs: Inputs,
+        form: Form,
+        code_length: impl Fn(usize) -> usize,
+        random: &mut Random,
+    ) -> Draft {
+        let fields = vendor_fields(&inputs, random);
+        let vendor = vendor_header(&fields).expect("the fields are good");
+        let code = random.bytes(code_length(vendor.len()));
+        let firmware_fields = firmware_fields(vendor.len(), &fields, &inputs, random);
+        let firmware = firmware_header(&firmware_fields, &code).expect("the fields are good");
+        let tail = match form {
+            Form::File => Vec::new(),
+            Form::Slot => vec![255; random.up_to(600)],
+        };
+        let cut = usize::MAX;
+        Draft {
+            fields,
+            vendor,
+            firmware,
+            code,
+            tail,
+            inputs,
+            cut,
+        }
+    }
+
+    pub fn v(&self) -> usize {
+        self.vendor.len()
+    }
+
+    /// All bytes. The first `length()` of them are to be lent: those behind a cut stay in place,
+    /// so that a call that reads on finds what it must not see.
+    pub fn bytes(&self) -> Vec<u8> {
+        [&self.vendor[..], &self.firmware, &self.code, &self.tail].concat()
+    }
+
+    /// The lent bytes as a file that begin takes: at least 1,540 bytes, and whole words.
+    pub fn file(&self) -> Vec<u8> {
+        let mut file = self.bytes();
+        file.truncate(self.length());
+        file.resize((file.len() / 4 * 4).max(1_540), 255);
+        file
+    }
+
+    pub fn length(&self) -> usize {
+        let whole = self.v() + self.firmware.len() + self.code.len() + self.tail.len();
+        whole.min(self.cut)
+    }
+}
+
+/// The length of a slot that holds such a file, with up to two pages to spare.
+pub fn slot_length(file_length: usize, random: &mut Random) -> usize {
+    file_length.next_multiple_of(4_096) + 4_096 * random.up_to(2)
+}
+
+/// Inputs that a check can accept with.
+pub fn inputs(random: &mut Random) -> Inputs {
+    let n = 1 + random.up_to(7) as u32;
+    let m = 1 + random.up_to(n as usize - 1) as u32;
+    let any = random.word();
+    let time = random.pick(&[0, 1, 100, u32::MAX - 1, u32::MAX, any]);
+    Inputs {
+        time,
+        m,
+        n,
+        vendor: true,
+        firmware: true,
+    }
+}
+
+/// Inputs of any kind: now and then an impossible policy or a verdict of no.
+pub fn any_inputs(random: &mut Random) -> Inputs {
+    let mut inputs = inputs(random);
+    let any = random.word();
+    if random.one_in(8) {
+        inputs.m = random.pick(&[0, 1, 8, 9, any]);
+    }
+    if random.one_in(8) {
+        inputs.n = random.pick(&[0, 1, 9, 256, any]);
+    }
+    inputs.vendor = !random.one_in(8);
+    inputs.firmware = !random.one_in(8);
+    inputs
+}
+
+/// A mask with at least `m` ones, all below bit `n`.
+pub fn good_mask(m: u32, n: u32, random: &mut Random) -> u8 {
+    let below_n = ((1_u32 << n) - 1) as u8;
+    let mut mask = random.byte() & below_n;
+    while mask.count_ones() < m {
+        mask |= 1 << random.up_to(n as usize - 1);
+    }
+    mask
+}
+
+/// Never, or not before `time`.
+fn expiry(time: u32, random: &mut Random) -> u32 {
+    let later = time + random.up_to((u32::MAX - time) as usize) as u32;
+    random.pick(&[0, time, later])
+}
+
+fn vendor_fields(inputs: &Inputs, random: &mut Random) -> VendorFields {
+    let n = 1 + random.up_to(7) as u8;
+    let any_string = random.up_to(255);
+    let string = random.pick(&[0, 1, 2, 3, 4, 5, 155, 255, any_string]);
+    let picture = match random.one_in(64) {
+        true => random.up_to(64_900),
+        false => random.up_to(700),
+    };
+    VendorFields {
+        expiry: expiry(inputs.time, random),
+        major: random.byte(),
+        minor: random.byte(),
+        m: 1 + random.up_to(usize::from(n) - 1) as u8,
+        n,
+        vtrust: random.word() as u16,
+        sigmask: good_mask(inputs.m, inputs.n, random),
+        keys: random.bytes(32 * usize::from(n)),
+        string: random.bytes(string),
+        picture: random.bytes(picture),
+        sig: sig(random),
+    }
+}
+
+fn firmware_fields(
+    v: usize,
+    vendor: &VendorFields,
+    inputs: &Inputs,
+    random: &mut Random,
+) -> FirmwareFields {
+    FirmwareFields {
+        v: v as u32,
+        expiry: expiry(inputs.time, random),
+        version: random.word().to_le_bytes(),
+        fix: random.word().to_le_bytes(),
+        sigmask: good_mask(vendor.m.into(), vendor.n.into(), random),
+        sig: sig(random),
+    }
+}
+
+pub fn sig(random: &mut Random) -> [u8; 64] {
+    random.bytes(64).try_into().expect("64 bytes")
+}

@@ -1,0 +1,26 @@
+//! The archive against the model: the same inputs to both, and every answer, output byte, record
+//! and slot byte compared. Seeds are fixed, and each area counts what it has tried and asserts
+//! that no case was missed. `THIMMOREL_LONG=1` makes each area twenty times as long.
+
+#[path = "../common/mod.rs"]
+mod common;
+#[path = "../model/mod.rs"]
+mod model;
+
+mod archive;
+mod both;
+mod draft;
+mod faults;
+mod landed;
+mod moment;
+mod tally;
+
+mod calls;
+mod checks;
+mod damage;
+mod from_c;
+mod installs;
+mod questions;
+mod records;
+mod wrapper;
+mod writers;

@@ -1,0 +1,150 @@
+//! How much is tried, and how often each kind of answer came. A test that never sees an answer
+//! shows nothing about it, so the counts are asserted.
+
+use crate::model::image::{Image, Refusal};
+use std::collections::BTreeMap;
+use std::fmt::Debug;
+
+/// The number of cases: `short` of them, or twenty times as many in a long run.
+pub fn cases(short: usize) -> usize {
+    match std::env::var("THIMMOREL_LONG").as_deref() {
+        Ok("1") => 20 * short,
+        _ => short,
+    }
+}
+
+/// Counts of answers, or of anything else.
+pub struct Tally<K> {
+    area: &'static str,
+    counts: BTreeMap<K, u64>,
+}
+
+impl<K: Copy + Debug + Ord> Tally<K> {
+    pub fn new(area: &'static str) -> Tally<K> {
+        let counts = BTreeMap::new();
+        Tally { area, counts }
+    }
+
+    pub fn count(&mut self, what: K) {
+        *self.counts.entry(what).or_default() += 1;
+    }
+
+    fn of(&self, what: K) -> u64 {
+        self.counts.get(&what).copied().unwrap_or(0)
+    }
+
+    /// Asserts that each of `wanted` came at least `least` times, and nothing else at all.
+    pub fn assert_exactly(&self, least: u64, wanted: &[K]) {
+        self.assert_seen(least, wanted);
+        for (what, count) in &self.counts {
+            assert!(
+                wanted.contains(what),
+                "{}: {what:?} came {count} times",
+                self.area
+            );
+        }
+    }
+
+    /// Asserts that each of `wanted` came at least `least` times.
+    pub fn assert_seen(&self, least: u64, wanted: &[K]) {
+        let total: u64 = self.counts.values().sum();
+        println!("{}: {total} cases: {:?}", self.area, self.counts);
+        for what in wanted {
+            let count = self.of(*what);
+            assert!(count >= least, "{}: {what:?} came {count} times", self.area);
+        }
+    }
+}
+
+/// The rows of the S-table that bytes can lead to. S15 cannot fail once S4 holds. S23 has two
+/// numbers.
+pub const STEPS: [&str; 23] = [
+    "S1", "S2", "S3", "S4", "S5", "S6", "S7", "S8", "S9", "S10", "S11", "S12", "S13", "S14", "S16",
+    "S17", "S18", "S19", "S20", "S21", "S22", "S23/14", "S23/15",
+];
+
+pub const ACCEPTED: &str = "accepted";
+
+/// The row that gave an answer about `length` bytes.
+pub fn step(answer: &Result<Image, Refusal>, length: usize) -> &'static str {
+    let Err(refusal) = answer else {
+        return ACCEPTED;
+    };
+    match (refusal.number, refusal.part) {
+        (1, 1) => "S1",
+        (16, 0) => "S2",
+        (2, 1) if length < 512 => "S3",
+        (3, 1) => "S4",
+        (2, 1) => "S5",
+        (4, 1) => "S6",
+        (5, 1) => "S7",
+        (6, 1) => "S8",
+        (7, 1) => "S9",
+        (8, 1) => "S10",
+        (9, 1) => "S11",
+        (2, 2) => "S12",
+        (10, 2) => "S13",
+        (11, 2) => "S14",
+        (12, 2) => "S16",
+        (6, 2) => "S17",
+        (7, 2) => "S18",
+        (8, 2) => "S19",
+        (9, 2) => "S20",
+        (2, 3) => "S21",
+        (13, 3) => "S22",
+        (14, 3) => "S23/14",
+        (15, 3) => "S23/15",
+        _ => panic!("no row gives {refusal:?}"),
+    }
+}
+
+/// What an installer's call answered: the call, the number and the part.
+pub type Outcome = (&'static str, u32, u32);
+
+pub fn outcome<T>(call: &'static str, answer: &Result<T, u32>) -> Outcome {
+    (call, *answer.as_ref().err().unwrap_or(&0), 0)
+}
+
+pub fn outcome_of_close(answer: &Result<(), Refusal>) -> Outcome {
+    match answer {
+        Ok(()) => ("close", 0, 0),
+        Err(refusal) => ("close", refusal.number, refusal.part),
+    }
+}
+
+/// The outcomes that need no slot written behind the session's back.
+pub const OUTCOMES: [Outcome; 30] = [
+    ("erase", 0, 0),
+    ("erase", 19, 0),
+    ("fill", 0, 0),
+    ("fill", 19, 0),
+    ("ask", 0, 0),
+    ("ask", 19, 0),
+    ("close", 0, 0),
+    ("close", 19, 0),
+    ("close", 1, 1),
+    ("close", 16, 0),
+    ("close", 3, 1),
+    ("close", 2, 1),
+    ("close", 4, 1),
+    ("close", 5, 1),
+    ("close", 6, 1),
+    ("close", 7, 1),
+    ("close", 8, 1),
+    ("close", 9, 1),
+    ("close", 2, 2),
+    ("close", 10, 2),
+    ("close", 11, 2),
+    ("close", 12, 2),
+    ("close", 6, 2),
+    ("close", 7, 2),
+    ("close", 8, 2),
+    ("close", 9, 2),
+    ("close", 2, 3),
+    ("close", 13, 3),
+    ("close", 14, 3),
+    ("close", 15, 3),
+];
+
+/// Those that a word written there leads to.
+pub const NOT_ERASED: [Outcome; 2] = [("fill", 23, 0), ("close", 23, 0)];

@@ -1,0 +1,28 @@
+//! The inspecting program of 01: what it writes for what stands on its standard input.
+
+use super::image::{check, Form, Inputs};
+
+const LIMIT: usize = 65_536;
+
+/// Time 0, policy 2 of 3, both verdicts yes.
+const INPUTS: Inputs = Inputs {
+    time: 0,
+    m: 2,
+    n: 3,
+    vendor: true,
+    firmware: true,
+};
+
+/// The one line, with its line end.
+pub fn inspect(input: &[u8]) -> String {
+    if input.len() > LIMIT {
+        return "too large\n".to_string();
+    }
+    match check(Form::File, input, &INPUTS) {
+        Ok(_) => "accepted\n".to_string(),
+        Err(refusal) => format!(
+            "refused {} part {} chunk {}\n",
+            refusal.number, refusal.part, refusal.chunk
+        ),
+    }
+}

@@ -1,0 +1,110 @@
+//! The writers of both headers: their refusals in the order of 01, and the rule for the output.
+//! A refused writer changes nothing. One that succeeds writes the header at the output's start,
+//! and the bytes past it stay.
+
+use super::image::{code_length_is_possible, policy_is_possible, vendor_length_is_possible};
+use super::layout::{chunk, hash_of, CHUNKS, FIRMWARE_HEADER, SEAL};
+
+/// What the vendor writer takes.
+#[derive(Clone, Debug)]
+pub struct VendorFields {
+    pub expiry: u32,
+    pub major: u8,
+    pub minor: u8,
+    pub m: u8,
+    pub n: u8,
+    pub vtrust: u16,
+    pub sigmask: u8,
+    pub keys: Vec<u8>,
+    pub string: Vec<u8>,
+    pub picture: Vec<u8>,
+    pub sig: [u8; 64],
+}
+
+/// What the firmware writer takes besides the lent code.
+#[derive(Clone, Debug)]
+pub struct FirmwareFields {
+    pub v: u32,
+    pub expiry: u32,
+    pub version: [u8; 4],
+    pub fix: [u8; 4],
+    pub sigmask: u8,
+    pub sig: [u8; 64],
+}
+
+fn refuse_if(fails: bool, number: u32) -> Result<(), u32> {
+    match fails {
+        true => Err(number),
+        false => Ok(()),
+    }
+}
+
+fn write(header: &[u8], out: &mut [u8]) -> Result<usize, u32> {
+    refuse_if(out.len() < header.len(), 21)?;
+    out[..header.len()].copy_from_slice(header);
+    Ok(header.len())
+}
+
+/// The vendor header up to its sigmask, without the length and the zeros after the picture.
+fn vendor_body(fields: &VendorFields) -> Vec<u8> {
+    let mut body = b"TRZV\0\0\0\0".to_vec();
+    body.extend(fields.expiry.to_le_bytes());
+    body.extend([fields.major, fields.minor, fields.m, fields.n]);
+    body.extend(fields.vtrust.to_le_bytes());
+    body.extend([0; 14]);
+    body.extend(&fields.keys);
+    body.push(fields.string.len() as u8);
+    body.extend(&fields.string);
+    body.resize(body.len().next_multiple_of(4), 0);
+    body.extend(&fields.picture);
+    body
+}
+
+/// The vendor header, of v bytes.
+pub fn vendor_header(fields: &VendorFields) -> Result<Vec<u8>, u32> {
+    let (m, n) = (fields.m.into(), fields.n.into());
+    refuse_if(!policy_is_possible(m, n), 4)?; // as S6
+    let keys_are_wrong = fields.keys.len() != 32 * usize::from(fields.n);
+    refuse_if(keys_are_wrong || fields.string.len() > 255, 20)?;
+
+    let mut header = vendor_body(fields);
+    let v = (header.len() + SEAL).next_multiple_of(512);
+    refuse_if(v > 65_536, 3)?;
+    header[4..8].copy_from_slice(&(v as u32).to_le_bytes());
+    header.resize(v - SEAL, 0);
+    header.push(fields.sigmask);
+    header.extend(fields.sig);
+    Ok(header)
+}
+
+/// The length v of the header written to `out`, or a refusal.
+pub fn write_vendor(fields: &VendorFields, out: &mut [u8]) -> Result<usize, u32> {
+    write(&vendor_header(fields)?, out)
+}
+
+/// The firmware header, of 1,024 bytes.
+pub fn firmware_header(fields: &FirmwareFields, code: &[u8]) -> Result<Vec<u8>, u32> {
+    let v = fields.v as usize;
+    refuse_if(!vendor_length_is_possible(v), 3)?; // as S4
+    refuse_if(!code_length_is_possible(code.len(), v), 12)?; // as S16
+
+    let mut header = b"TRZF".to_vec();
+    header.extend((FIRMWARE_HEADER as u32).to_le_bytes());
+    header.extend(fields.expiry.to_le_bytes());
+    header.extend((code.len() as u32).to_le_bytes());
+    header.extend(fields.version);
+    header.extend(fields.fix);
+    header.extend([0; 8]);
+    for k in 1..=CHUNKS {
+        header.extend(hash_of(chunk(code, v, k)));
+    }
+    header.extend([0; 415]);
+    header.push(fields.sigmask);
+    header.extend(fields.sig);
+    Ok(header)
+}
+
+/// The length 1,024 of the header written to `out`, or a refusal.
+pub fn write_firmware(fields: &FirmwareFields, code: &[u8], out: &mut [u8]) -> Result<usize, u32> {
+    write(&firmware_header(fields, code)?, out)
+}
