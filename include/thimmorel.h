@@ -403,7 +403,7 @@ uint32_t thimmorel_write_firmware(uint32_t v, uint32_t expiry, const uint8_t ver
  * | 5 | operations made since begin; at Done they are slot / 4,096 + file / 4 |
  * | 6 | first word of the file, once it is complete; least byte first |
  * | 7 | word in progress: the bytes taken of it; least byte first |
- * | 8 to 15 | reserved: begin writes 0, and no call reads them |
+ * | 8 to 15 | reserved: a call that succeeds writes 0, and no call reads them |
  *
  * Any record gets an answer. A call answers 19
  *

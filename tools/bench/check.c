@@ -1,7 +1,6 @@
 /*
- * Times the checks against one BLAKE2s pass, in one run, and measures the deepest stack of a check.
- * Prints ratios: the check of a full image over a pass over its code, and the check of a slot that
- * is nearly empty over a pass over the slot.
+ * Times the checks, the firmware writer and an install against one BLAKE2s pass or one check, in one
+ * run, and measures the deepest stack of each call. Prints ratios and bytes.
  */
 
 #define _POSIX_C_SOURCE 200809L
@@ -13,7 +12,7 @@
 #include <time.h>
 
 enum { SLOT = 2097152, V = 512, HEADER = 1024, FULL_CODE = SLOT - HEADER - V, CHUNK = 131072 };
-enum { ROUNDS = 200, STACK = 65536 };
+enum { ROUNDS = 200, INSTALLS = 10, STACK = 65536 };
 
 static uint8_t full[SLOT];
 static uint8_t small[SLOT];
@@ -88,6 +87,90 @@ static void check_small_slot(void)
 		fail("the small image is refused");
 }
 
+static const uint8_t version[4] = { 1, 2, 3, 4 }, sig[64];
+static uint8_t header[HEADER];
+
+static void write_firmware(void)
+{
+	uint32_t written[1];
+	if (thimmorel_write_firmware(V, 0, version, version, full + V + HEADER, FULL_CODE, 1, sig,
+	                             header, sizeof header, written) != 0)
+		fail("the firmware header is refused");
+}
+
+static void write_vendor(void)
+{
+	static const uint8_t keys[64];
+	uint32_t written[1];
+	if (thimmorel_write_vendor(0, 1, 0, 1, 2, 0, 3, keys, sizeof keys, NULL, 0, NULL, 0, sig,
+	                           header, sizeof header, written) != 0)
+		fail("the vendor header is refused");
+}
+
+static void ask_vendor_digest(void)
+{
+	if (thimmorel_vendor_digest(full, SLOT, where, digest) != 0)
+		fail("the vendor question is refused");
+}
+
+static void ask_firmware_digest(void)
+{
+	if (thimmorel_firmware_digest(full, SLOT, where, digest) != 0)
+		fail("the firmware question is refused");
+}
+
+/* An install of the full image: its record and slot, and the calls in order. */
+static uint32_t record[16];
+static uint8_t slot[SLOT];
+
+static void begin_install(void)
+{
+	if (thimmorel_begin(slot, SLOT, SLOT, record) != 0)
+		fail("begin is refused");
+}
+
+static void erase_once(void)
+{
+	if (thimmorel_erase(record, slot, SLOT) != 0)
+		fail("erase is refused");
+}
+
+static void erase_rest(void)
+{
+	for (int i = 1; i < SLOT / 4096; i++)
+		erase_once();
+}
+
+static size_t given;
+
+static void fill_once(void)
+{
+	uint32_t taken[1];
+	if (thimmorel_fill(record, full + given, 4, slot, SLOT, taken) != 0 || taken[0] != 4)
+		fail("fill is refused");
+	given += 4;
+}
+
+static void fill_rest(void)
+{
+	while (given < SLOT)
+		fill_once();
+}
+
+static void ask_install(void)
+{
+	uint32_t answers[6];
+	uint8_t digests[64];
+	if (thimmorel_ask(record, slot, SLOT, answers, digests) != 0)
+		fail("ask is refused");
+}
+
+static void close_install(void)
+{
+	if (thimmorel_close(record, slot, SLOT, 0, 2, 3, true, true, where) != 0)
+		fail("close is refused");
+}
+
 static double now(void)
 {
 	struct timespec time;
@@ -127,14 +210,61 @@ static __attribute__((noinline)) size_t stack_of(void (*work)(void))
 	return STACK - untouched;
 }
 
+/* The best of a few installs: filling by four bytes a call, and closing, over a file check. */
+static void print_install(void)
+{
+	double fill = 0, close = 0, check = 0;
+	for (int i = 0; i < INSTALLS; i++) {
+		double f, c, k;
+		given = 0;
+		begin_install();
+		erase_once();
+		erase_rest();
+		f = once(fill_rest);
+		c = once(close_install);
+		k = once(check_full_file);
+		fill = i == 0 || f < fill ? f : fill;
+		close = i == 0 || c < close ? c : close;
+		check = i == 0 || k < check ? k : check;
+	}
+	printf("filling 2 MiB by 4 bytes a call / the file check of it: %6.3f\n", fill / check);
+	printf("close of a full file / the file check of it:            %6.3f\n", close / check);
+}
+
+static void print_stack(const char *call, void (*work)(void))
+{
+	printf("  %-16s %5zu\n", call, stack_of(work));
+}
+
+static void print_stacks(void)
+{
+	printf("deepest stack of each call, in bytes:\n");
+	print_stack("digest", pass_over_code);
+	print_stack("check_file", check_full_file);
+	print_stack("check_slot", check_small_slot);
+	print_stack("vendor_digest", ask_vendor_digest);
+	print_stack("firmware_digest", ask_firmware_digest);
+	print_stack("write_vendor", write_vendor);
+	print_stack("write_firmware", write_firmware);
+	given = 0;
+	print_stack("begin", begin_install);
+	print_stack("erase", erase_once);
+	erase_rest();
+	print_stack("fill", fill_once);
+	fill_rest();
+	print_stack("ask", ask_install);
+	print_stack("close", close_install);
+}
+
 int main(void)
 {
 	make_image(full, FULL_CODE);
 	make_image(small, 4);
-	printf("file check of a full image / a pass over its code:      %.3f\n", ratio(check_full_file, pass_over_code));
-	printf("slot check of a full image / a pass over its code:      %.3f\n", ratio(check_full_slot, pass_over_code));
-	printf("slot check of 1,540 bytes in 2 MiB / a pass over 2 MiB:  %.3f\n", ratio(check_small_slot, pass_over_slot));
-	printf("deepest stack of a file check, in bytes:                %zu\n", stack_of(check_full_file));
-	printf("deepest stack of a slot check, in bytes:                %zu\n", stack_of(check_small_slot));
+	printf("file check of a full image / a pass over its code:      %6.3f\n", ratio(check_full_file, pass_over_code));
+	printf("slot check of a full image / a pass over its code:      %6.3f\n", ratio(check_full_slot, pass_over_code));
+	printf("slot check of 1,540 bytes in 2 MiB / a pass over 2 MiB: %6.3f\n", ratio(check_small_slot, pass_over_slot));
+	printf("firmware header of 2 MiB of code / a pass over it:      %6.3f\n", ratio(write_firmware, pass_over_code));
+	print_install();
+	print_stacks();
 	return EXIT_SUCCESS;
 }
