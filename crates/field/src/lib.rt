@@ -1,8 +1,8 @@
-// Reading fields of lent bytes.
+// Fields of lent bytes, read here and written in `put`.
 //
 // Every reader is total: a byte past the end reads as 0, a part has as many bytes as there are, a
-// difference stops at 0. So no caller has to test a length first, and no public function has a
-// `requires`.
+// difference stops at 0. So no caller has to test a length first, and no reader has a `requires`.
+// The functions of `put` that write have one: their callers, the writers, make sure of the room.
 pub mod put;
 pub mod theorems;
 
