@@ -1,0 +1,240 @@
+"""The two sides. Here: the archive's calls, through ctypes, as include/thimmorel.h documents them.
+There: trezorlib's structures, digests and signatures. Both make an image from the same Fields. It
+assumes that `run` has made target/interop/libthimmorel.so."""
+
+from ctypes import (CDLL, POINTER, c_bool, c_char_p, c_size_t, c_uint8, c_uint16, c_uint32,
+                    create_string_buffer)
+from dataclasses import dataclass
+from pathlib import Path
+
+from construct import Container
+from trezorlib import cosi, firmware
+
+FIRMWARE_HEADER = 1_024
+
+# The sigmask and the signature, at the end of each header.
+SEAL = 65
+UNSIGNED = bytes(SEAL)
+
+
+class Differs(Exception):
+    """Says what is not as it should be."""
+
+
+@dataclass
+class Fields:
+    """What an image is made from. A mask says which keys sign the header: of the boot loader's keys
+    for the vendor header, of the vendor's for the firmware header."""
+
+    v: int
+    expiry: int
+    vendor_version: bytes
+    m: int
+    keys: list
+    vtrust: int
+    string: bytes
+    picture: bytes
+    vendor_mask: int
+    firmware_expiry: int
+    version: bytes
+    fix: bytes
+    code: bytes
+    firmware_mask: int
+
+    def __str__(self):
+        return (f"n {len(self.keys)}, string of {len(self.string)}, picture of"
+                f" {len(self.picture)}, v {self.v}, code of {len(self.code)}")
+
+    def picture_start(self):
+        string_end = 32 + 32 * len(self.keys) + 1 + len(self.string)
+        return string_end + -string_end % 4
+
+    def picture_end(self):
+        return self.picture_start() + len(self.picture)
+
+
+# Keys and signatures, by trezorlib
+
+PRIVATE = {}
+
+
+def make_key(private):
+    """A public key. PRIVATE keeps its private key."""
+    public = cosi.pubkey_from_privkey(private)
+    PRIVATE[public] = private
+    return public
+
+
+# trezorlib asks to set these where the keys are not its makers'.
+BOOT_KEYS = firmware.V2_BOOTLOADER_KEYS = [make_key(bytes([i]) * 32) for i in (1, 2, 3)]
+POLICY = firmware.V2_SIGS_REQUIRED, len(BOOT_KEYS)
+
+
+def sign(digest, keys, mask):
+    """The mask, and the signature by all keys that it names."""
+    signers = [key for i, key in enumerate(keys) if mask >> i & 1]
+    nonces = [cosi.get_nonce(PRIVATE[key], digest) for key in signers]
+    joint_key = cosi.combine_keys(signers)
+    commitment = cosi.combine_keys(public for _, public in nonces)
+    signatures = [cosi.sign_with_privkey(digest, PRIVATE[key], joint_key, nonce, commitment)
+                  for key, (nonce, _) in zip(signers, nonces)]
+    return bytes([mask]) + cosi.combine_sig(commitment, signatures)
+
+
+def is_signed(digest, seal, m, keys):
+    try:
+        cosi.verify(seal[1:], digest, m, keys, seal[0])
+    except Exception:  # as trezorlib's validate does
+        return False
+    return True
+
+
+# Here
+
+LIBRARY = CDLL(str(Path(__file__).resolve().parents[2] / "target/interop/libthimmorel.so"))
+WORD, WORDS = c_uint32, POINTER(c_uint32)
+BYTES = c_char_p
+SLICE = [BYTES, c_size_t]
+
+
+def exported(name, arguments, result=WORD):
+    call = LIBRARY["thimmorel_" + name]
+    call.argtypes, call.restype = arguments, result
+    return call
+
+
+CHECK = SLICE + [WORD, WORD, WORD, c_bool, c_bool, WORDS, WORDS]
+check_file = exported("check_file", CHECK)
+check_slot = exported("check_slot", CHECK)
+vendor_digest = exported("vendor_digest", SLICE + [WORDS, BYTES])
+firmware_digest = exported("firmware_digest", SLICE + [WORDS, BYTES])
+tell_parts = exported("parts", SLICE + [WORD, POINTER(c_size_t)], None)
+tell_trust = exported("trust", SLICE + [WORDS], None)
+write_vendor = exported("write_vendor", [WORD, c_uint8, c_uint8, c_uint8, c_uint8, c_uint16,
+                        c_uint8] + SLICE + SLICE + SLICE + [BYTES] + SLICE + [WORDS])
+write_firmware = exported("write_firmware", [WORD, WORD, BYTES, BYTES] + SLICE
+                          + [c_uint8, BYTES] + SLICE + [WORDS])
+
+
+def ask(question, file):
+    """The digest that a signature is over, or None."""
+    digest = create_string_buffer(32)
+    refused = question(file, len(file), (WORD * 2)(), digest)
+    return None if refused else digest.raw
+
+
+def seals(file):
+    v = int.from_bytes(file[4:8], "little")
+    return file[v - SEAL:v], file[v + FIRMWARE_HEADER - SEAL:v + FIRMWARE_HEADER]
+
+
+def chip(file):
+    """The verdicts of a signature chip that is given the digests from here."""
+    vendor, header = seals(file)
+    keys = [file[at:at + 32] for at in range(32, 32 + 32 * file[15], 32)]
+    return (is_signed(ask(vendor_digest, file), vendor, POLICY[0], BOOT_KEYS),
+            is_signed(ask(firmware_digest, file), header, file[14], keys))
+
+
+def check(call, image, time, verdicts):
+    """The answer, and what an acceptance tells: v, code length, version and fix version."""
+    where, told = (WORD * 2)(), (WORD * 4)()
+    number = call(image, len(image), time, *POLICY, *verdicts, where, told)
+    if number:
+        return f"refused {number} part {where[0]} chunk {where[1]}", None
+    return "accepted", list(told)
+
+
+def parts(file):
+    """The string, the picture area and the code of an accepted image."""
+    at = (c_size_t * 6)()
+    tell_parts(file, len(file), 0, at)
+    return [file[start:start + length] for start, length in zip(at[::2], at[1::2])]
+
+
+def trust(file):
+    told = (WORD * 5)()
+    tell_trust(file, len(file), told)
+    return list(told)
+
+
+def written(writer, room, *arguments):
+    out, length = create_string_buffer(room), (WORD * 1)()
+    number = writer(*arguments, out, room, length)
+    if number:
+        raise Differs(f"{writer.__name__} answers {number}")
+    return out[:length[0]]
+
+
+def write(fields, picture, vendor_seal=UNSIGNED, firmware_seal=UNSIGNED):
+    """The image by the writers. The picture may be a whole picture area."""
+    keys = b"".join(fields.keys)
+    vendor = written(
+        write_vendor, 65_536, fields.expiry, *fields.vendor_version, fields.m, len(fields.keys),
+        fields.vtrust, vendor_seal[0], keys, len(keys), fields.string, len(fields.string),
+        picture, len(picture), vendor_seal[1:])
+    header = written(
+        write_firmware, FIRMWARE_HEADER, len(vendor), fields.firmware_expiry, fields.version,
+        fields.fix, fields.code, len(fields.code), firmware_seal[0], firmware_seal[1:])
+    return vendor + header + fields.code
+
+
+def write_signed(fields, picture):
+    """The image by the writers, signed over the digests from here."""
+    draft = write(fields, picture)
+    vendor_seal = sign(ask(vendor_digest, draft), BOOT_KEYS, fields.vendor_mask)
+    firmware_seal = sign(ask(firmware_digest, draft), fields.keys, fields.firmware_mask)
+    return write(fields, picture, vendor_seal, firmware_seal)
+
+
+# There
+
+def structure(fields, vendor_seal=UNSIGNED, firmware_seal=UNSIGNED):
+    """The image as trezorlib's structure, with the code hashes that trezorlib computes."""
+    names = "major", "minor", "patch", "build"
+    vendor_header = Container(
+        magic=b"TRZV", header_len=fields.v, expiry=fields.expiry,
+        version=Container(zip(names, fields.vendor_version)), sig_m=fields.m,
+        sig_n=len(fields.keys), pubkeys=fields.keys,
+        trust=firmware.VendorTrust.parse(fields.vtrust.to_bytes(2, "little")),
+        text=fields.string.decode(), image=firmware.Toif.parse(fields.picture),
+        sigmask=vendor_seal[0], signature=vendor_seal[1:])
+    header = Container(
+        magic=firmware.HeaderType.FIRMWARE, header_len=FIRMWARE_HEADER,
+        expiry=fields.firmware_expiry, code_length=len(fields.code),
+        version=Container(zip(names, fields.version)),
+        fix_version=Container(zip(names, fields.fix)),
+        hashes=firmware.calculate_code_hashes(fields.code, fields.v + FIRMWARE_HEADER),
+        v1_signatures=3 * [bytes(64)], v1_key_indexes=3 * [0],
+        sigmask=firmware_seal[0], signature=firmware_seal[1:])
+    return Container(vendor_header=vendor_header, image=Container(header=header, code=fields.code))
+
+
+def build_signed(fields, fw):
+    """The image by trezorlib, signed over trezorlib's digests."""
+    for header, keys, mask in ((fw.vendor_header, BOOT_KEYS, fields.vendor_mask),
+                               (fw.image.header, fields.keys, fields.firmware_mask)):
+        seal = sign(firmware.header_digest(header), keys, mask)
+        header.sigmask, header.signature = seal[0], seal[1:]
+    return firmware.VendorFirmware.build(fw)
+
+
+def trust_there(file):
+    """The four readings that trezorlib names."""
+    told = firmware.parse(file)[1].vendor_header.trust
+    return [told.delay, told.red_background, told.require_user_click, told.show_vendor_string]
+
+
+def validate(file):
+    """What trezorlib's parse and validate answer."""
+    try:
+        version, fw = firmware.parse(file)
+    except (ValueError, firmware.FirmwareIntegrityError):
+        return "refused by parse"
+    try:
+        firmware.validate(version, fw)
+    except firmware.FirmwareIntegrityError as refusal:
+        return f"refused by validate: {refusal}"
+    except AttributeError:  # it builds no header whose magic it does not know
+        return "no answer, validate fails"
+    return "accepted"
