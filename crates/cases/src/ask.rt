@@ -93,19 +93,23 @@ pub fn slot(len: u32) -> Asked {
     usual(true, len)
 }
 
-pub fn answer(b: &[u8], asked: Asked) -> Answer {
-    let given = Inputs {
+// The inputs alone.
+pub fn given(asked: Asked) -> Inputs {
+    Inputs {
         time: asked.time,
         m: asked.m,
         n: asked.n,
         vendor: asked.vendor,
         firmware: asked.firmware,
-    };
+    }
+}
+
+pub fn answer(b: &[u8], asked: Asked) -> Answer {
     let bytes = part(b, 0, asked.len as usize);
     if asked.slot {
-        check_slot(bytes, given)
+        check_slot(bytes, given(asked))
     } else {
-        check_file(bytes, given)
+        check_file(bytes, given(asked))
     }
 }
 

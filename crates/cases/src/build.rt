@@ -1,11 +1,13 @@
 // Images built by hand, byte by byte, after the tables of 01. No writer makes them, and no reader
 // of a header tells where a field stands.
 //
-// Every function is total: what would fall past the end of the buffer is dropped.
+// Every function is total: what would fall past the end of the buffer is dropped, and a copy that
+// would is not made.
 use blake2s::blake2s;
 use field::byte_at;
 use field::minus;
 use field::part;
+use field::put::put_bytes;
 
 pub fn set(b: &mut [u8], at: usize, x: u8) {
     if at < b.len() {
@@ -22,9 +24,20 @@ pub fn fill(b: &mut [u8], from: usize, to: usize, x: u8) {
     }
 }
 
+// The bytes of another slice, from a place on.
+pub fn copy(b: &mut [u8], from: usize, bytes: &[u8]) {
+    if b.len() < from {
+        return;
+    }
+    if b.len() - from < bytes.len() {
+        return;
+    }
+    put_bytes(b, from, bytes);
+}
+
 // Bytes that repeat only after 251, and are never 0 and never 255: a zero byte or an erased one that
 // is read in their stead is seen.
-fn pattern(b: &mut [u8], from: usize, to: usize) {
+pub fn pattern(b: &mut [u8], from: usize, to: usize) {
     let mut i = from;
     while i < to {
         set(b, i, (1 + (i - from) % 251) as u8);

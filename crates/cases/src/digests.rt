@@ -15,7 +15,7 @@ use questions::Digest;
 use questions::firmware_digest;
 use questions::vendor_digest;
 
-fn print_reply(reply: Digest) {
+pub fn print_reply(reply: Digest) {
     let outcome = reply.outcome;
     let digest = reply.digest;
     match outcome {

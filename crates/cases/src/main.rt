@@ -1,5 +1,6 @@
 // Cases of the check: images built by hand, broken in one place or in two, and what is answered, a
-// line for each. What each line must say was made by a program apart, from the paper (01) alone.
+// line for each. Then cases of the writers and of the installer, as tables. What each line must say
+// was made by a program apart, from the paper (01) alone.
 mod ask;
 mod build;
 mod chunks;
@@ -8,10 +9,15 @@ mod digests;
 mod edges;
 mod faults;
 mod firmware;
+mod installs;
 mod order;
 mod parts;
+mod records;
+mod rows;
 mod show;
+mod tables;
 mod vendor;
+mod writers;
 
 use ask::Asked;
 use ask::ask;
@@ -27,7 +33,8 @@ fn steps(b: &mut [u8], asked: Asked) {
     code::run(b, asked);
 }
 
-fn run(b: &mut [u8]) {
+// Cases of the check.
+fn checks(b: &mut [u8]) {
     small(b);
     steps(b, file(1540));
     steps(b, slot(4096));
@@ -39,8 +46,16 @@ fn run(b: &mut [u8]) {
     digests::run(b);
 }
 
-// The largest image has 2,097,152 bytes, and a word is behind it.
+fn run(image: &mut [u8], slot: &mut [u8], spare: &mut [u8]) {
+    checks(image);
+    tables::run(image, slot, spare);
+}
+
+// The largest image has 2,097,152 bytes, and a slot of a page more is refused. The two longest headers
+// have 66,560 bytes together.
 fn main() {
-    let mut buffer = [0u8; 2097156];
-    run(&mut buffer);
+    let mut image = [0u8; 2101248];
+    let mut slot = [0u8; 2101248];
+    let mut spare = [0u8; 66560];
+    run(&mut image, &mut slot, &mut spare);
 }

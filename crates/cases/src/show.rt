@@ -18,11 +18,16 @@ pub fn print_number(label: &[u8], number: u32) {
     io::print_decimal(STDOUT_FILENO, number as u64);
 }
 
+pub fn print_size(label: &[u8], size: usize) {
+    print(label);
+    io::print_decimal(STDOUT_FILENO, size as u64);
+}
+
 pub fn print_hex(number: u32, width: usize) {
     io::print_hex(STDOUT_FILENO, number as u64, width);
 }
 
-fn print_bytes(digest: [u8; 32]) {
+pub fn print_bytes(digest: [u8; 32]) {
     let mut i: usize = 0;
     while i < 32 {
         print_hex(wide(digest[i]), 2);
@@ -35,10 +40,23 @@ pub fn print_digest(digest: [u8; 32]) {
     print(b"\n");
 }
 
-pub fn print_refusal(r: Refusal) {
+// Four bytes in their order.
+pub fn print_word(label: &[u8], w: [u8; 4]) {
+    print(label);
+    print_hex(wide(w[0]), 2);
+    print_hex(wide(w[1]), 2);
+    print_hex(wide(w[2]), 2);
+    print_hex(wide(w[3]), 2);
+}
+
+pub fn print_rejected(r: Refusal) {
     print_number(b"refused ", r.number);
     print_number(b" part ", r.part);
     print_number(b" chunk ", r.chunk);
+}
+
+pub fn print_refusal(r: Refusal) {
+    print_rejected(r);
     print(b"\n");
 }
 
