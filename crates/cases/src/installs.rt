@@ -112,33 +112,48 @@ fn on_shorter(s: Session, total: u32, slot: &mut [u8]) -> u32 {
     on_slot(s, total, &mut slot[from..n])
 }
 
-// Calls before the last page is erased, where the row asks for them: all but erase.
+// Ask, close, and all calls on a slot that is a word shorter.
+fn besides(s: Session, total: u32, slot: &mut [u8]) -> u32 {
+    let asks = counted(total, ask_refused(s, slot));
+    let closes = counted(asks, close_refused(s, slot));
+    on_shorter(s, closes, slot)
+}
+
+// The calls that are refused before the last page is erased, where the row asks for them.
 fn while_erasing(between: bool, s: Session, total: u32, slot: &mut [u8]) -> u32 {
     if !between {
         return total;
     }
     let fills = counted(total, fill_refused(s, slot));
-    let asks = counted(fills, ask_refused(s, slot));
-    let closes = counted(asks, close_refused(s, slot));
-    on_shorter(s, closes, slot)
+    besides(s, fills, slot)
 }
 
-// The same before the last byte is given: all but fill.
+// The same before the last byte is given.
 fn while_filling(between: bool, s: Session, total: u32, slot: &mut [u8]) -> u32 {
     if !between {
         return total;
     }
     let erases = counted(total, erase_refused(s, slot));
-    let asks = counted(erases, ask_refused(s, slot));
-    let closes = counted(asks, close_refused(s, slot));
-    on_shorter(s, closes, slot)
+    besides(s, erases, slot)
 }
 
-// Calls when the session is over: all of them.
-fn once_over(s: Session, total: u32, slot: &mut [u8]) -> u32 {
-    let asks = counted(total, ask_refused(s, slot));
-    let calls = on_slot(s, asks, slot);
-    on_shorter(s, calls, slot)
+// The same once all bytes are given.
+fn while_full(between: bool, s: Session, total: u32, slot: &mut [u8]) -> u32 {
+    if !between {
+        return total;
+    }
+    let erases = counted(total, erase_refused(s, slot));
+    on_shorter(s, erases, slot)
+}
+
+// The same when the session is over: all calls.
+fn once_over(between: bool, s: Session, total: u32, slot: &mut [u8]) -> u32 {
+    if !between {
+        return total;
+    }
+    let fills = counted(total, fill_refused(s, slot));
+    let erases = counted(fills, erase_refused(s, slot));
+    besides(s, erases, slot)
 }
 
 fn erase_pages(begun: Session, between: bool, slot: &mut [u8]) -> Progress {
@@ -241,54 +256,42 @@ fn finish(filled: Session, image: &[u8], slot: &mut [u8]) -> Session {
     session
 }
 
-// The end of the line: the boot check of the slot.
-fn print_start(slot: &[u8]) {
+fn print_refused(between: bool, total: u32) {
+    if between {
+        print_number(b"refused between ", total);
+        print(b", ");
+    }
+}
+
+// The end of an install, from the last byte on.
+fn end(between: bool, filled: Progress, image: &[u8], slot: &mut [u8]) {
+    let before = while_full(between, filled.session, filled.refused, slot);
+    let over = finish(filled.session, image, slot);
+    print_refused(between, once_over(between, over, before, slot));
+}
+
+// A whole install, with refused calls between all others or with none, and the boot check of the slot.
+fn whole(row: &[u8], between: bool, image: &[u8], slot: &mut [u8]) {
+    print(row);
+    let filled = install(value(row, 2) as usize, between, image, slot);
+    end(between, filled, image, slot);
     print_answer(check_slot(slot, given(file(0))));
 }
 
-fn plain(row: &[u8], file: &[u8], slot: &mut [u8]) {
-    print(row);
-    let filled = install(value(row, 2) as usize, false, file, slot);
-    finish(filled.session, file, slot);
-    print_start(slot);
-}
-
-// The same with refused calls before every other call, and after close.
-fn crossed(row: &[u8], file: &[u8], slot: &mut [u8]) {
-    print(row);
-    let filled = install(value(row, 2) as usize, true, file, slot);
-    let erases = counted(filled.refused, erase_refused(filled.session, slot));
-    let shorter = on_shorter(filled.session, erases, slot);
-    let over = finish(filled.session, file, slot);
-    print_number(b"refused between ", once_over(over, shorter, slot));
-    print(b", ");
-    print_start(slot);
-}
-
 // A row of an install: the lengths of the slot, of the file and of its pieces.
-pub fn plain_install(row: &[u8], image: &[u8], b: &mut [u8]) {
+pub fn installed(row: &[u8], between: bool, image: &[u8], b: &mut [u8]) {
     let from: usize = 0;
     let len = value(row, 0) as usize;
-    let file = part(image, 0, value(row, 1) as usize);
+    let bytes = part(image, 0, value(row, 1) as usize);
     if b.len() < len {
         return;
     }
-    plain(row, file, &mut b[from..len]);
-}
-
-pub fn crossed_install(row: &[u8], image: &[u8], b: &mut [u8]) {
-    let from: usize = 0;
-    let len = value(row, 0) as usize;
-    let file = part(image, 0, value(row, 1) as usize);
-    if b.len() < len {
-        return;
-    }
-    crossed(row, file, &mut b[from..len]);
+    whole(row, between, bytes, &mut b[from..len]);
 }
 
 // The same with a byte of the file changed: the place and the byte stand behind the lengths.
-pub fn changed_install(row: &[u8], image: &[u8], b: &mut [u8], changed: &mut [u8]) {
+pub fn installed_changed(row: &[u8], image: &[u8], b: &mut [u8], changed: &mut [u8]) {
     copy(changed, 0, part(image, 0, value(row, 1) as usize));
     set(changed, value(row, 3) as usize, byte(row, 4));
-    plain_install(row, changed, b);
+    installed(row, false, changed, b);
 }

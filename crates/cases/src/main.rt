@@ -9,6 +9,7 @@ mod digests;
 mod edges;
 mod faults;
 mod firmware;
+mod installer_tables;
 mod installs;
 mod order;
 mod parts;
@@ -17,6 +18,7 @@ mod rows;
 mod show;
 mod tables;
 mod vendor;
+mod writer_tables;
 mod writers;
 
 use ask::Asked;
@@ -48,7 +50,8 @@ fn checks(b: &mut [u8]) {
 
 fn run(image: &mut [u8], slot: &mut [u8], spare: &mut [u8]) {
     checks(image);
-    tables::run(image, slot, spare);
+    writer_tables::run(image, slot, spare);
+    installer_tables::run(image, slot, spare);
 }
 
 // The largest image has 2,097,152 bytes, and a slot of a page more is refused. The two longest headers

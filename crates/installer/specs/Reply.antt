@@ -29,12 +29,3 @@ chunkOf (Took k) = 0
 chunkOf Done = 0
 chunkOf (Refused number) = 0
 chunkOf (Rejected r) = r .chunk
-
--- how many bytes a Fill took
-abbrev pub takenOf : Reply → ℕ
-takenOf Begun = 0
-takenOf Erased = 0
-takenOf (Took k) = k
-takenOf Done = 0
-takenOf (Refused number) = 0
-takenOf (Rejected r) = 0
