@@ -244,7 +244,8 @@ uint32_t thimmorel_check_slot(const uint8_t *bytes, size_t length, uint32_t time
  * are 0. After an acceptance they are the start and the length of the string, of the picture area
  * and of the code, counted from the first of the bytes. The picture area runs up to the sigmask.
  *
- * Bytes that no check accepted have no parts to tell: then pass the number of the refusal.
+ * Bytes that no check accepted have no parts to tell: then pass the number of the refusal. Whatever
+ * is passed, no part reaches past the bytes.
  *
  * \param bytes    the bytes that were checked.
  * \param length   the number of bytes.

@@ -2,3 +2,4 @@
 pub mod Laws
 pub mod Rounding
 pub mod Splice
+pub mod Numbers

@@ -1,7 +1,7 @@
 -- What a check answers.
 -- Assumes nothing.
 use Prim.Native.Nat.{ℕ, _+_}
-use mathlib.Core.List.{List}
+use mathlib.Core.List.{List, [], _∷_}
 use lib.ListN.{getD}
 use Rattle.header.specs.Layout.{vendorLen, codeLen}
 use Rattle.header.specs.declared.Outcome.{Outcome}
@@ -11,18 +11,15 @@ use Rattle.image.specs.declared.Image.{Image}
 use Rattle.image.specs.declared.Answer.{Answer}
 use Rattle.image.specs.declared.Answer.the-variants.{Accepted, Rejected}
 
--- the paper's number, part and chunk of every answer
+-- the paper's number of every answer
 abbrev pub numberOf : Answer → ℕ
 numberOf (Accepted i) = 0
 numberOf (Rejected r) = r .number
 
-abbrev pub partOf : Answer → ℕ
-partOf (Accepted i) = 0
-partOf (Rejected r) = r .part
-
-abbrev pub chunkOf : Answer → ℕ
-chunkOf (Accepted i) = 0
-chunkOf (Rejected r) = r .chunk
+-- part and chunk, both 0 of an acceptance
+abbrev pub whereOf : Answer → List ℕ
+whereOf (Accepted i) = 0 ∷ 0 ∷ []
+whereOf (Rejected r) = r .part ∷ r .chunk ∷ []
 
 -- major, minor, patch, build
 abbrev pub versionAt : List ℕ → ℕ → Version

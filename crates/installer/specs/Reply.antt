@@ -1,6 +1,7 @@
 -- What the installer's calls answer: the paper's number and values of every case.
 -- Assumes nothing.
 use Prim.Native.Nat.{ℕ}
+use mathlib.Core.List.{List, [], _∷_}
 use Rattle.installer.specs.declared.Reply.{Reply}
 use Rattle.installer.specs.declared.Reply.the-variants.{Begun, Erased, Took, Done, Refused, Rejected}
 
@@ -13,19 +14,11 @@ numberOf Done = 0
 numberOf (Refused number) = number
 numberOf (Rejected r) = r .number
 
--- part and chunk are those of a check's refusal, and 0 otherwise
-abbrev pub partOf : Reply → ℕ
-partOf Begun = 0
-partOf Erased = 0
-partOf (Took k) = 0
-partOf Done = 0
-partOf (Refused number) = 0
-partOf (Rejected r) = r .part
-
-abbrev pub chunkOf : Reply → ℕ
-chunkOf Begun = 0
-chunkOf Erased = 0
-chunkOf (Took k) = 0
-chunkOf Done = 0
-chunkOf (Refused number) = 0
-chunkOf (Rejected r) = r .chunk
+-- part and chunk of a check's refusal, and 0 otherwise
+abbrev pub whereOf : Reply → List ℕ
+whereOf Begun = 0 ∷ 0 ∷ []
+whereOf Erased = 0 ∷ 0 ∷ []
+whereOf (Took k) = 0 ∷ 0 ∷ []
+whereOf Done = 0 ∷ 0 ∷ []
+whereOf (Refused number) = 0 ∷ 0 ∷ []
+whereOf (Rejected r) = r .part ∷ r .chunk ∷ []

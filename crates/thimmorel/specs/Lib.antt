@@ -2,3 +2,4 @@
 pub mod Words
 pub mod Session
 pub mod Headers
+pub mod Carried

@@ -54,15 +54,6 @@ recordAfter (Rejected r) words old = words
 abbrev pub wordsAfter : Turn → List ℕ → List ℕ
 wordsAfter turn old = recordAfter (turn .reply) (wordsOf (turn .session)) old
 
--- part and chunk of a check's refusal, and 0 otherwise
-abbrev pub replyWhere : Reply → List ℕ
-replyWhere Begun = 0 ∷ 0 ∷ []
-replyWhere Erased = 0 ∷ 0 ∷ []
-replyWhere (Took k) = 0 ∷ 0 ∷ []
-replyWhere Done = 0 ∷ 0 ∷ []
-replyWhere (Refused number) = 0 ∷ 0 ∷ []
-replyWhere (Rejected r) = r .part ∷ r .chunk ∷ []
-
 -- how many bytes a Fill took; after a refusal the word stays as it was
 abbrev pub takenWord : Reply → List ℕ → List ℕ
 takenWord Begun old = old

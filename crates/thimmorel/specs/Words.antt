@@ -1,10 +1,11 @@
 -- How the exported calls tell answers: as words.
 -- Assumes nothing.
-use Prim.Native.Nat.{ℕ, _+_, _-_, _*_}
+use Prim.Native.Nat.{ℕ, _+_, _-_, _*_, min}
 use mathlib.Core.Bool.{Bool, cond}
-use mathlib.Core.List.{List, [], _∷_}
+use mathlib.Core.List.{List, [], _∷_, _++_}
 use lib.Dec.{eqb}
-use Rattle.header.specs.Layout.{vendorLen, keyCount, stringLen, stringStart, pictureStart, maskAt, codeStart, codeLen}
+use lib.ListN.{length}
+use Rattle.header.specs.Layout.{vendorLen, keyCount, stringLen, stringStart, stringEnd, pictureStart, maskAt, codeStart, imageLen}
 use Rattle.header.specs.declared.Inputs.{Inputs}
 use Rattle.header.specs.declared.Outcome.{Outcome}
 use Rattle.header.specs.declared.Outcome.the-variants.{Pass, Refused}
@@ -19,11 +20,6 @@ abbrev pub inputs : ℕ → ℕ → ℕ → Bool → Bool → Inputs
 inputs time m n vendor firmware = record { time = time; m = m; n = n; vendor = vendor; firmware = firmware }
 
 -- ---- a check's answer
-
--- part and chunk, both 0 of an acceptance
-abbrev pub whereWords : Answer → List ℕ
-whereWords (Accepted i) = 0 ∷ 0 ∷ []
-whereWords (Rejected r) = r .part ∷ r .chunk ∷ []
 
 -- a version as a word, the major number in its least byte
 abbrev pub versionWord : Version → ℕ
@@ -55,18 +51,22 @@ digestBytes (Refused r) digest old = old
 
 -- ---- parts and trust
 
--- start and length of the string, of the picture area and of the code, where a check's number is 0; else zeros
+-- where the part from one offset up to another stands in n bytes: its start and its length, neither past the bytes
+abbrev pub placed : ℕ → ℕ → ℕ → List ℕ
+placed n from to = min from n ∷ (min to n - min from n) ∷ []
+
+unfoldable pub stringPlace : List ℕ → List ℕ
+stringPlace b = placed (length b) (stringStart (keyCount b)) (stringEnd (keyCount b) (stringLen b))
+
+unfoldable pub picturePlace : List ℕ → List ℕ
+picturePlace b = placed (length b) (pictureStart (keyCount b) (stringLen b)) (maskAt (vendorLen b))
+
+unfoldable pub codePlace : List ℕ → List ℕ
+codePlace b = placed (length b) (codeStart b) (imageLen b)
+
+-- the string, the picture area and the code, where a check's number is 0; else zeros
 unfoldable pub partWords : ℕ → List ℕ → List ℕ
-partWords number b =
-    cond (eqb number 0)
-    (stringStart (keyCount b)
-    ∷ stringLen b
-    ∷ pictureStart (keyCount b) (stringLen b)
-    ∷ (maskAt (vendorLen b) - pictureStart (keyCount b) (stringLen b))
-    ∷ codeStart b
-    ∷ codeLen b
-    ∷ [])
-    (0 ∷ 0 ∷ 0 ∷ 0 ∷ 0 ∷ 0 ∷ [])
+partWords number b = cond (eqb number 0) (stringPlace b ++ (picturePlace b ++ codePlace b)) (0 ∷ 0 ∷ 0 ∷ 0 ∷ 0 ∷ 0 ∷ [])
 
 abbrev pub flag : Bool → ℕ
 flag x = cond x 1 0

@@ -6,9 +6,9 @@ use image::Version;
 use image::check_file;
 use image::check_slot;
 ghost use mathlib.Core.Path.{_≡_};
-ghost use Rattle.image.specs.Answer.{numberOf};
+ghost use Rattle.image.specs.Answer.{numberOf, whereOf};
 ghost use Rattle.image.specs.Check.{checkFile, checkSlot};
-ghost use Rattle.thimmorel.specs.Words.{inputs, whereWords, versionWord, toldWords, imageWords};
+ghost use Rattle.thimmorel.specs.Words.{inputs, versionWord, toldWords, imageWords};
 
 fn number_of(answer: Answer) -> u32
     ensures { λ r. ⌜ r ≡ numberOf answer ⌝ }
@@ -20,7 +20,7 @@ fn number_of(answer: Answer) -> u32
 }
 
 fn where_words(answer: Answer) -> [u32; 2]
-    ensures { λ r. ⌜ r ≡ whereWords answer ⌝ }
+    ensures { λ r. ⌜ r ≡ whereOf answer ⌝ }
 {
     match answer {
         Answer::Accepted(_) => [0, 0],
@@ -61,7 +61,7 @@ fn image_words(answer: Answer, old: [u32; 4]) -> [u32; 4]
 // to image, which a refusal leaves as it was.
 fn tell(answer: Answer, place: &mut [u32; 2], image: &mut [u32; 4]) -> u32
     ensures { λ r. ⌜ r ≡ numberOf answer ⌝ }
-    ensures { λ r. ⌜ now (place .exit) ≡ whereWords answer ⌝ }
+    ensures { λ r. ⌜ now (place .exit) ≡ whereOf answer ⌝ }
     ensures { λ r. ⌜ now (image .exit) ≡ imageWords answer (now (image .entry)) ⌝ }
 {
     let at = where_words(answer);
@@ -85,7 +85,7 @@ pub extern "C" fn thimmorel_check_file(
     image: &mut [u32; 4],
 ) -> u32
     ensures { λ r. ⌜ r ≡ numberOf (checkFile (now (bytes .entry)) (inputs time m n vendor firmware)) ⌝ }
-    ensures { λ r. ⌜ now (place .exit) ≡ whereWords (checkFile (now (bytes .entry)) (inputs time m n vendor firmware)) ⌝ }
+    ensures { λ r. ⌜ now (place .exit) ≡ whereOf (checkFile (now (bytes .entry)) (inputs time m n vendor firmware)) ⌝ }
     ensures { λ r. ⌜ now (image .exit) ≡ imageWords (checkFile (now (bytes .entry)) (inputs time m n vendor firmware)) (now (image .entry)) ⌝ }
 {
     let given = Inputs {
@@ -111,7 +111,7 @@ pub extern "C" fn thimmorel_check_slot(
     image: &mut [u32; 4],
 ) -> u32
     ensures { λ r. ⌜ r ≡ numberOf (checkSlot (now (bytes .entry)) (inputs time m n vendor firmware)) ⌝ }
-    ensures { λ r. ⌜ now (place .exit) ≡ whereWords (checkSlot (now (bytes .entry)) (inputs time m n vendor firmware)) ⌝ }
+    ensures { λ r. ⌜ now (place .exit) ≡ whereOf (checkSlot (now (bytes .entry)) (inputs time m n vendor firmware)) ⌝ }
     ensures { λ r. ⌜ now (image .exit) ≡ imageWords (checkSlot (now (bytes .entry)) (inputs time m n vendor firmware)) (now (image .entry)) ⌝ }
 {
     let given = Inputs {

@@ -25,9 +25,9 @@ ghost use Prim.Native.Nat.{_%_};
 ghost use lib.ListN.{length};
 ghost use Rattle.installer.specs.Record.{full};
 ghost use Rattle.installer.specs.Calls.{beginOf, eraseOf, eraseSlot, fillOf, fillSlot, askOf, closeOf, closeSlot};
-ghost use Rattle.installer.specs.Reply.{numberOf};
+ghost use Rattle.installer.specs.Reply.{numberOf, whereOf};
 ghost use Rattle.thimmorel.specs.Words.{inputs};
-ghost use Rattle.thimmorel.specs.Session.{sessionOf, wordsOf, recordAfter, wordsAfter, replyWhere, takenWord, askedWords, askedDigests};
+ghost use Rattle.thimmorel.specs.Session.{sessionOf, wordsOf, recordAfter, wordsAfter, takenWord, askedWords, askedDigests};
 
 fn number_of(reply: Reply) -> u32
     ensures { λ r. ⌜ r ≡ numberOf reply ⌝ }
@@ -43,7 +43,7 @@ fn number_of(reply: Reply) -> u32
 }
 
 fn reply_where(reply: Reply) -> [u32; 2]
-    ensures { λ r. ⌜ r ≡ replyWhere reply ⌝ }
+    ensures { λ r. ⌜ r ≡ whereOf reply ⌝ }
 {
     match reply {
         Reply::Begun => [0, 0],
@@ -225,7 +225,7 @@ pub extern "C" fn thimmorel_close(
     ensures { λ r. ⌜ r ≡ numberOf (closeOf (sessionOf (now («record» .entry))) (inputs time m n vendor firmware) (now (slot .entry)) .reply) ⌝ }
     ensures { λ r. ⌜ now («record» .exit) ≡ wordsAfter (closeOf (sessionOf (now («record» .entry))) (inputs time m n vendor firmware) (now (slot .entry))) (now («record» .entry)) ⌝ }
     ensures { λ r. ⌜ now (slot .exit) ≡ closeSlot (sessionOf (now («record» .entry))) (inputs time m n vendor firmware) (now (slot .entry)) ⌝ }
-    ensures { λ r. ⌜ now (place .exit) ≡ replyWhere (closeOf (sessionOf (now («record» .entry))) (inputs time m n vendor firmware) (now (slot .entry)) .reply) ⌝ }
+    ensures { λ r. ⌜ now (place .exit) ≡ whereOf (closeOf (sessionOf (now («record» .entry))) (inputs time m n vendor firmware) (now (slot .entry)) .reply) ⌝ }
 {
     let given = Inputs {
         time,

@@ -6,6 +6,7 @@ mod digests;
 mod install;
 mod parts;
 mod session;
+pub mod theorems;
 mod writers;
 
 ghost use mathlib.Core.Path.{_≡_};

@@ -13,7 +13,7 @@ use borrow.Author.Tests.{eqb-true}
 use Rattle.field.specs.Field.{u16At, u32At, between, allAre, startsWith}
 use Rattle.field.specs.Put.{le16, le32, zeros}
 use Rattle.field.proofs.Laws.{and-left, and-right}
-use Rattle.writer.proofs.Numbers.{bytes-of, halves-of, word-below}
+use Rattle.field.proofs.Numbers.{bytes-of, halves-of, word-below}
 
 -- ---- read behind other bytes p
 

@@ -1,5 +1,4 @@
 -- The laws that the proofs of writer cite.
-pub mod Numbers
 pub mod Fields
 pub mod Taken
 pub mod Joined

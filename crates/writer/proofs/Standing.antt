@@ -9,6 +9,7 @@ use lib.ListN.{length, getD, length-append}
 use lib.Seq.{getD-at}
 use Rattle.field.specs.Field.{u32At, between, allAre, startsWith}
 use Rattle.field.specs.Put.{zeros}
+use Rattle.field.proofs.Numbers.{word-of}
 use Rattle.field.proofs.Splice.{length-zeros}
 use Rattle.header.specs.Layout.{TRZV, TRZF, vendorLen, vendorExpiry, signersNeeded, keyCount, stringLenAt, stringEnd, pictureStart, maskAt}
 use Rattle.image.specs.Answer.{versionAt}
@@ -16,7 +17,6 @@ use Rattle.writer.specs.Vendor.{vendorHead, vendorFront, vendorBack, ven
 use Rattle.writer.specs.Firmware.{joined, firmwareHead, firmwareFields}
 use Rattle.writer.specs.declared.Vendor.{Vendor}
 use Rattle.writer.specs.declared.Firmware.{Firmware}
-use Rattle.writer.proofs.Numbers.{word-of}
 use Rattle.writer.proofs.Fields.{byte-past, word-past, part-past, part-is, zeros-are-zero}
 use Rattle.writer.proofs.Taken.{length-front}
 

@@ -90,6 +90,24 @@ fn no_parts_after_a_refusal() {
     }
 }
 
+/// Bytes that no check accepted have no parts, but a caller may ask for them as if one had.
+#[test]
+fn no_part_reaches_past_the_bytes() {
+    let mut random = Random::new(306);
+    let mut cut = 0;
+    for _ in 0..cases(100_000) {
+        let draft = draft(&mut random);
+        let length = random.up_to(draft.length());
+        let bytes = &draft.bytes()[..length];
+        let parts = archive::parts(bytes, 0);
+        for part in [parts.string, parts.picture, parts.code] {
+            assert!(bytes.get(part.clone()).is_some(), "{part:?} of {length} bytes");
+            cut += usize::from(part.end == length);
+        }
+    }
+    assert!(cut > 1_000, "{cut} parts were cut");
+}
+
 #[test]
 fn every_vtrust() {
     let mut header = Draft::small(Form::File, &mut Random::new(305)).vendor;

@@ -1,7 +1,7 @@
--- `thimmorel::parts::part_words` meets its contract: after a refusal zeros, and otherwise what the calls ensure.
+-- `thimmorel::parts::part_words` meets its contract: after a refusal zeros, and otherwise the three places that the calls ensure.
 use borrow.Author.Needs.{needs}
 use borrow.Author.Tests.{eq-eqb, ne-eqb}
-use Rattle.thimmorel.specs.Words.{partWords}
+use Rattle.thimmorel.specs.Words.{partWords, stringPlace, picturePlace, codePlace}
 use Rattle.thimmorel.proofs.parts.part_words.Statement.{statement}
 use Rattle.thimmorel.proofs.parts.part_words.Tie as tie
 
@@ -10,23 +10,13 @@ unfolding partWords
 returns c = rw (ne-eqb _ _ (c .if1 .taken))
 
 returns-2 : tie.Need-returns-2
-unfolding partWords
+unfolding partWords stringPlace picturePlace codePlace
 returns-2 c =
-    let a = c .before .before .before in
-    let v = a .before in
-    let p = v .before .before in
-    let s = p .before in
     rw (
-      eq-eqb _ _ (s .before .before .if1 .left),
-      a .string-start .ensures,
-      c .before .before .minus2 .ensures,
-      v .minus .ensures,
-      p .picture-start .ensures,
-      s .string-len .ensures,
-      s .before .key-count .ensures,
-      v .before .vendor-len .ensures,
-      c .before .code-start .ensures,
-      c .code-len .ensures,
+      eq-eqb _ _ (c .before .before .before .if1 .left),
+      c .before .before .string-place .ensures,
+      c .before .picture-place .ensures,
+      c .code-place .ensures,
     )
 
 pub part-words-spec : {M : Type 1} → statement M
@@ -37,13 +27,10 @@ part-words-spec =
     (λ c κs. search needs)
     (λ c κs. search needs)
     (λ c κs. search needs)
-    (λ c κs. search needs)
     (λ c. search needs)
-    (λ c κs. search needs)
-    (λ c κs. search needs)
     (λ c. search needs)
-    (λ c κs. search needs)
-    (λ c κs. search needs)
-    (λ c κs. search needs)
+    (λ c. search needs)
+    (λ c. search needs)
+    (λ c. search needs)
     (λ c. search needs)
     returns-2)
