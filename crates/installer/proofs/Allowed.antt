@@ -57,27 +57,22 @@ module _ (found : List ℕ) (f : ℕ) where
       rw (filling-length p e, sound-test (p .now .session) (length found) (e .sound))
       (eq-eqb (p .now .session .pages) (pagesOf (length found)) (e .pages))
 
-  pub close-before-last : (p : Point) → Filling found f p → allGiven f (p .past) ≡ false → full (p .now .session) (length (p .now .slot)) ≡ false
-  close-before-last p e h =
+  -- the record is full exactly when all bytes are given
+  full-once-given : (p : Point) → Filling found f p → full (p .now .session) (length (p .now .slot)) ≡ allGiven f (p .past)
+  full-once-given p e =
       rw (
         filling-length p e,
         sound-test (p .now .session) (length found) (e .sound),
         eq-eqb (p .now .session .pages) (pagesOf (length found)) (e .pages),
         e .taken,
         e .file,
-        h,
       )
 
+  pub close-before-last : (p : Point) → Filling found f p → allGiven f (p .past) ≡ false → full (p .now .session) (length (p .now .slot)) ≡ false
+  close-before-last p e h = full-once-given p e ∙ h
+
   pub close-allowed : (p : Point) → Filling found f p → allGiven f (p .past) ≡ true → full (p .now .session) (length (p .now .slot)) ≡ true
-  close-allowed p e h =
-      rw (
-        filling-length p e,
-        sound-test (p .now .session) (length found) (e .sound),
-        eq-eqb (p .now .session .pages) (pagesOf (length found)) (e .pages),
-        e .taken,
-        e .file,
-        h,
-      )
+  close-allowed p e h = full-once-given p e ∙ h
 
   pub first-word-erased : (p : Point) → Filling found f p → take 4 (p .now .slot) ≡ erasedBytes 4
   first-word-erased p e = ap (take 4) (e .slot) ∙ holding-first (p .past .given) (length found)
