@@ -1,6 +1,6 @@
 /*
- * Times the checks, the firmware writer and an install against one BLAKE2s pass or one check, in one
- * run, and measures the deepest stack of each call. Prints ratios and bytes.
+ * Times the checks, the writers and an install against one BLAKE2s pass or one check, in one run, and
+ * measures the deepest stack of each call. Prints ratios and bytes.
  */
 
 #define _POSIX_C_SOURCE 200809L
@@ -12,6 +12,7 @@
 #include <time.h>
 
 enum { SLOT = 2097152, V = 512, HEADER = 1024, FULL_CODE = SLOT - HEADER - V, CHUNK = 131072 };
+enum { LONGEST_V = 65536, LONGEST_PICTURE = LONGEST_V - 65 - 100 };
 enum { ROUNDS = 200, INSTALLS = 10, STACK = 65536 };
 
 static uint8_t full[SLOT];
@@ -88,7 +89,7 @@ static void check_small_slot(void)
 }
 
 static const uint8_t version[4] = { 1, 2, 3, 4 }, sig[64];
-static uint8_t header[HEADER];
+static uint8_t header[LONGEST_V];
 
 static void write_firmware(void)
 {
@@ -98,13 +99,35 @@ static void write_firmware(void)
 		fail("the firmware header is refused");
 }
 
+/* Two keys and no string: the picture starts at 100 and fills the longest header. */
 static void write_vendor(void)
 {
 	static const uint8_t keys[64];
 	uint32_t written[1];
-	if (thimmorel_write_vendor(0, 1, 0, 1, 2, 0, 3, keys, sizeof keys, NULL, 0, NULL, 0, sig,
-	                           header, sizeof header, written) != 0)
+	if (thimmorel_write_vendor(0, 1, 0, 1, 2, 0, 3, keys, sizeof keys, NULL, 0, full,
+	                           LONGEST_PICTURE, sig, header, sizeof header, written) != 0)
 		fail("the vendor header is refused");
+}
+
+static void pass_over_header(void)
+{
+	thimmorel_digest(header, LONGEST_V, digest);
+}
+
+static void tell_parts(void)
+{
+	size_t parts[6];
+	thimmorel_parts(full, SLOT, 0, parts);
+	if (parts[4] + parts[5] != SLOT)
+		fail("the code is not where it should be");
+}
+
+static void tell_trust(void)
+{
+	uint32_t trust[5];
+	thimmorel_trust(full, SLOT, trust);
+	if (trust[0] != 15)
+		fail("the trust reading is not as it should be");
 }
 
 static void ask_vendor_digest(void)
@@ -242,6 +265,8 @@ static void print_stacks(void)
 	print_stack("digest", pass_over_code);
 	print_stack("check_file", check_full_file);
 	print_stack("check_slot", check_small_slot);
+	print_stack("parts", tell_parts);
+	print_stack("trust", tell_trust);
 	print_stack("vendor_digest", ask_vendor_digest);
 	print_stack("firmware_digest", ask_firmware_digest);
 	print_stack("write_vendor", write_vendor);
@@ -264,6 +289,7 @@ int main(void)
 	printf("slot check of a full image / a pass over its code:      %6.3f\n", ratio(check_full_slot, pass_over_code));
 	printf("slot check of 1,540 bytes in 2 MiB / a pass over 2 MiB: %6.3f\n", ratio(check_small_slot, pass_over_slot));
 	printf("firmware header of 2 MiB of code / a pass over it:      %6.3f\n", ratio(write_firmware, pass_over_code));
+	printf("vendor header of 65,536 bytes / a pass over it:         %6.3f\n", ratio(write_vendor, pass_over_header));
 	print_install();
 	print_stacks();
 	return EXIT_SUCCESS;
