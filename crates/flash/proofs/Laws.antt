@@ -1,14 +1,16 @@
 -- Laws of erased bytes and of a stored word.
 -- Assumes nothing.
 use mathlib.Core.Path.{_≡_, refl, sym, ap, _∙_}
-use mathlib.Core.Bool.{true}
+use mathlib.Core.Bool.{Bool, true, false, _&&_}
 use mathlib.Core.List.{List, [], _∷_, _++_}
 use Prim.Native.Nat.{ℕ, _+_, _≤_, _<_}
 use native.Mathlib.Omega.{arith}
-use lib.ListN.{length, drop, getD, set, length-replicate, replicate-append-replicate}
+use lib.Dec.{eqb}
+use lib.ListN.{length, drop, getD, set, length-replicate, replicate-append-replicate, List·getD-eq-default}
 use lib.Seq.{sets-eq}
 use borrow.Author.Fill.{fill-more}
-use Rattle.flash.specs.Flash.{erasedBytes, startsErased}
+use borrow.Author.Tests.{le-leb, lt-leb}
+use Rattle.flash.specs.Flash.{erasedBytes, firstPageErased, firstWordStored, startsErased}
 
 pub erased-none : (d : List ℕ) → d ≡ erasedBytes 0 ++ drop 0 d
 unfolding erasedBytes
@@ -47,3 +49,33 @@ pub word-stored : (w d : List ℕ) → length w ≡ 4 → 4 ≤ length d
 word-stored w d e h =
     let bytes : List ℕ = getD w 0 0 ∷ getD w 1 0 ∷ getD w 2 0 ∷ getD w 3 0 ∷ [] in
     sets-eq bytes d 0 h ∙ ap (λ (v : List ℕ). v ++ drop 4 d) (sym (four-elements w e))
+
+-- ---- where there is a whole page or word, and where there is not
+
+pub page-whole : (b : List ℕ) → 4096 ≤ length b → firstPageErased b ≡ erasedBytes 4096 ++ drop 4096 b
+unfolding firstPageErased
+page-whole b h = rw (le-leb 4096 (length b) h)
+
+pub page-cut : (b : List ℕ) → length b < 4096 → firstPageErased b ≡ b
+unfolding firstPageErased
+page-cut b h = rw (lt-leb 4096 (length b) h)
+
+pub word-whole : (w b : List ℕ) → 4 ≤ length b → firstWordStored w b ≡ w ++ drop 4 b
+unfolding firstWordStored
+word-whole w b h = rw (le-leb 4 (length b) h)
+
+pub word-cut : (w b : List ℕ) → length b < 4 → firstWordStored w b ≡ b
+unfolding firstWordStored
+word-cut w b h = rw (lt-leb 4 (length b) h)
+
+last-false : (a b c : Bool) → (a && (b && (c && false))) ≡ false
+last-false true true true = refl
+last-false true true false = refl
+last-false true false c = refl
+last-false false b c = refl
+
+-- less than a word is not erased
+pub cut-not-erased : (b : List ℕ) → length b < 4 → startsErased b ≡ false
+cut-not-erased b h =
+    let past : getD b 3 0 ≡ 0 = List·getD-eq-default b 0 (omega arith) in
+    rw past (last-false (eqb (getD b 0 0) 255) (eqb (getD b 1 0) 255) (eqb (getD b 2 0) 255))

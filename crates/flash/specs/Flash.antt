@@ -2,13 +2,15 @@
 -- Assumes nothing.
 use Prim.Native.Nat.{ℕ, _+_, _*_}
 use mathlib.Core.List.{List, _++_}
-use mathlib.Core.Bool.{Bool, _&&_}
-use lib.ListN.{take, drop, getD, replicate}
-use lib.Dec.{eqb}
+use mathlib.Core.Bool.{Bool, _&&_, cond}
+use lib.ListN.{length, take, drop, getD, replicate}
+use lib.Dec.{eqb, leb}
 
 -- n erased bytes
 unfoldable pub erasedBytes : ℕ → List ℕ
 erasedBytes n = replicate n 255
+
+-- ---- the slot
 
 -- the slot with page p erased
 abbrev pub pageErased : ℕ → List ℕ → List ℕ
@@ -17,6 +19,16 @@ pageErased p slot = take (p * 4096) slot ++ (erasedBytes 4096 ++ drop (p * 4096 
 -- the slot with the word w stored at an offset
 abbrev pub wordStored : ℕ → List ℕ → List ℕ → List ℕ
 wordStored at w slot = take at slot ++ (w ++ drop (at + 4) slot)
+
+-- ---- what an operation leaves of the bytes from its place on
+
+-- their first page erased, where there is a whole one
+unfoldable pub firstPageErased : List ℕ → List ℕ
+firstPageErased b = cond (leb 4096 (length b)) (erasedBytes 4096 ++ drop 4096 b) b
+
+-- the word stored as their first, where there is a whole one
+unfoldable pub firstWordStored : List ℕ → List ℕ → List ℕ
+firstWordStored w b = cond (leb 4 (length b)) (w ++ drop 4 b) b
 
 -- the first word of these bytes is erased
 abbrev pub startsErased : List ℕ → Bool

@@ -1,9 +1,10 @@
--- Four stores, each below the length, are the word in front of the rest.
+-- Less than a word stays; else four stores, each below the length, are the word in front of the rest.
 use denote.Ref.{now}
+use mathlib.Core.Path.{sym, _∙_}
 use native.Mathlib.Omega.{arith}
 use lib.ListN.{length-set}
 use borrow.Author.Needs.{needs}
-use Rattle.flash.proofs.Laws.{word-stored}
+use Rattle.flash.proofs.Laws.{word-stored, word-whole, word-cut}
 use Rattle.flash.proofs.store_word.Statement.{statement}
 use Rattle.flash.proofs.store_word.Tie as tie
 
@@ -11,6 +12,7 @@ pub store-word-spec : {M : Type 1} → statement M
 store-word-spec =
     tie.close
     (tie.spec
+    (λ c. sym (word-cut _ _ (c .if1 .taken)))
     (λ c. search needs)
     (λ c. search needs)
     (λ c. search needs)
@@ -20,4 +22,4 @@ store-word-spec =
     (λ c. search needs)
     (λ c. search needs)
     (λ c. search needs)
-    (λ c. word-stored (c .args .t2) (now (c .args .at)) (search needs) (c .pre)))
+    (λ c. word-stored (c .before .args .t2) (now (c .before .args .at)) (search needs) (c .if1 .left) ∙ sym (word-whole _ _ (c .if1 .left))))

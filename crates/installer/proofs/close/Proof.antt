@@ -1,15 +1,16 @@
 -- Each return is one case of the definition: its tests are the callees' promises and the branches on the way; past them the file lies in the slot, whose first word comes back stored.
 use native.Mathlib.Omega.{arith}
-use Prim.Native.Nat.{ℕ}
+use Prim.Native.Nat.{ℕ, _-_, _≤_}
 use mathlib.Core.Path.{_≡_, sym, ap, _∙_}
 use mathlib.Core.List.{List}
 use mathlib.Core.Bool.{true}
 use borrow.Author.Tests.{not-true, not-false}
-use lib.ListN.{length}
+use lib.ListN.{length, take, drop}
 use lib.Seq.{length-take-le}
 use denote.Ref.{now}
 use Rattle.installer.specs.declared.Session.{Session}
 use Rattle.flash.specs.Flash.{startsErased}
+use Rattle.flash.proofs.Laws.{word-whole}
 use Rattle.image.specs.Check.{checkFile}
 use Rattle.installer.specs.Record.{full}
 use Rattle.installer.specs.Calls.{fileIn}
@@ -47,9 +48,6 @@ returns c =
     let e = barred-full _ _ _ (c .before .before .full .ensures) (c .before .if1 .taken) in
     (rw e (c .refused .ensures), rw e)
 
-starts-erased-requires : tie.Need-starts-erased-requires
-starts-erased-requires c κs = part-long 0 4 (slotOf (c .before .before)) (omega (arith, ready (c .before .before)))
-
 returns-2 : tie.Need-returns-2
 returns-2 c =
     let b : tie.After-starts-erased = c .before .before in
@@ -70,8 +68,9 @@ returns-3 c =
     let g = free b ∙ not-false (b .starts-erased .result) (k .before .before .before .if2 .left) in
     (rw (h, g, ← checked k) (c .closed .ensures), rw (h, g, ← checked k, c .before .enum-told2 .given .1))
 
-store-word-requires : tie.Need-store-word-requires
-store-word-requires c κs = part-long 0 4 (slotOf (opened (c .before .before .before .before .before .before .before))) (omega (arith, ready (opened (c .before .before .before .before .before .before .before))))
+-- the first word lies in the slot
+room : (b : tie.After-starts-erased) → 4 ≤ length (take (length (slotOf (opened b)) - 0) (drop 0 (slotOf (opened b))))
+room b = part-long 0 4 (slotOf (opened b)) (omega (arith, ready (opened b)))
 
 returns-4 : tie.Need-returns-4
 returns-4 c =
@@ -82,7 +81,8 @@ returns-4 c =
     let g = free b ∙ not-false (b .starts-erased .result) (k .before .before .before .if2 .left) in (
       rw (h, g, ← checked k) (c .closed2 .ensures),
       rw (h, g, ← checked k, t .enum-told .given .1)
-          (part-back 0 4 (slotOf (opened b)) _ (recordOf (opened b) .first) (c .before .before .before .store-word .ensures)),
+          (part-back 0 4 (slotOf (opened b)) _ (recordOf (opened b) .first)
+          (c .before .before .before .store-word .ensures ∙ word-whole _ _ (room b))),
     )
 
 pub close-spec : {M : Type 1} → statement M
@@ -95,7 +95,7 @@ close-spec =
     (λ c. search needs)
     (λ c. search needs)
     (λ c. search needs)
-    starts-erased-requires
+    (λ c κs. search needs)
     (λ c κs. search needs)
     (λ c. search needs)
     returns-2
@@ -110,7 +110,7 @@ close-spec =
     (λ c. search needs)
     (λ c. search needs)
     (λ c. search needs)
-    store-word-requires
+    (λ c κs. search needs)
     (λ c κs. omega (arith, ready (opened (c .before .before .before .before .before .before .before .before .before .before))))
     (λ c. search needs)
     returns-4)

@@ -1,7 +1,7 @@
 -- Past the test the record is sound and a page is left, so the page lies in the slot; the part lent comes back with it erased.
 use Prim.Native.Nat.{ℕ, _+_, _*_, _≤_}
 use denote.Ref.{now}
-use mathlib.Core.Path.{_≡_, refl}
+use mathlib.Core.Path.{_≡_, refl, _∙_}
 use mathlib.Core.Bool.{true, false}
 use mathlib.Core.List.{List}
 use native.Mathlib.Omega.{arith}
@@ -10,6 +10,7 @@ use lib.ListN.{length}
 use borrow.Author.Needs.{needs}
 use borrow.Author.Tests.{ltb-true}
 use Rattle.flash.specs.Flash.{erasedBytes}
+use Rattle.flash.proofs.Laws.{page-whole}
 use Rattle.installer.specs.Record.{erasing}
 use Rattle.installer.specs.declared.Session.{Session}
 use Rattle.installer.proofs.Facts.{Sound, passed, barred}
@@ -44,7 +45,9 @@ returns-2 c =
     let d : tie.Else1 = c .before .before .before .before .before .before .before in
     let e : erasing (recordOf d) (length (slotOf d)) ≡ true = rw (add-one (recordOf d .pages)) (passed _ _ _ _ (d .before .before .sound .ensures) (d .if1 .left) .2) in (
       rw e refl,
-      rw e (part-back (recordOf d .pages * 4096) 4096 (slotOf d) _ (erasedBytes 4096) (c .before .before .before .before .erase-page .ensures)),
+      rw e
+          (part-back (recordOf d .pages * 4096) 4096 (slotOf d) _ (erasedBytes 4096)
+          (c .before .before .before .before .erase-page .ensures ∙ page-whole _ (part-long (recordOf d .pages * 4096) 4096 (slotOf d) (room d)))),
     )
 
 pub erase-spec : {M : Type 1} → statement M
@@ -58,7 +61,7 @@ erase-spec =
     (λ c. omega (arith, room (c .before)))
     (λ c. omega (arith, room (c .before)))
     (λ c. search needs)
-    (λ c κs. part-long (recordOf (c .before .before) .pages * 4096) 4096 (slotOf (c .before .before)) (room (c .before .before)))
+    (λ c κs. search needs)
     (λ c. omega (arith, facts (c .before .before .before .before .before .before)))
     (λ c. omega (arith, facts (c .before .before .before .before .before .before .before)))
     (λ c. search needs)

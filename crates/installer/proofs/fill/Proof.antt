@@ -10,6 +10,7 @@ use lib.ListN.{length, take, drop}
 use denote.Ref.{now}
 use Rattle.installer.specs.declared.Session.{Session}
 use Rattle.flash.specs.Flash.{startsErased}
+use Rattle.flash.proofs.Laws.{word-whole}
 use Rattle.installer.specs.Record.{pagesOf, filling}
 use Rattle.installer.specs.Calls.{inFirstWord}
 use Rattle.installer.proofs.Facts.{Sound, passed, barred}
@@ -94,7 +95,8 @@ returns-5 c =
     let g = free b ∙ not-false (b .starts-erased .result) (c .before .before .before .before .before .if4 .left) in (
       rw (← j .before .takes .ensures, ← j .join .ensures, h, e, f, g) (c .took3 .ensures),
       rw (← j .before .takes .ensures, ← j .join .ensures, h, e, f, g)
-          (part-back (place (opened j)) 4 (slotOf (opened j)) _ (j .join .result) (c .before .before .before .store-word .ensures)),
+          (part-back (place (opened j)) 4 (slotOf (opened j)) _ (j .join .result)
+          (c .before .before .before .store-word .ensures ∙ word-whole _ _ (room (b .before .before .before)))),
     )
 
 pub fill-spec : {M : Type 1} → statement M
@@ -115,14 +117,14 @@ fill-spec =
     (λ c. omega (arith, ready (opened (c .before .before))))
     (λ c. omega (arith, ready (opened (c .before .before .before))))
     (λ c. search needs)
-    (λ c κs. room (c .before .before))
+    (λ c κs. search needs)
     (λ c κs. search needs)
     (λ c. search needs)
     returns-4
     (λ c. omega (arith, ready (opened (c .before .before .before .before .before .before))))
     (λ c. omega (arith, ready (opened (c .before .before .before .before .before .before))))
     (λ c. search needs)
-    (λ c κs. room (c .before .before .before .before .before))
+    (λ c κs. search needs)
     took-requires-3
     (λ c. search needs)
     returns-5)
