@@ -185,30 +185,30 @@ void thimmorel_digest(const uint8_t *bytes, size_t length, uint8_t digest[32]);
  *
  * | step | fails if | number | part |
  * |---|---|---|---|
- * | S1 | fewer than 4 bytes, or not `TRZV` | 1 | 1 |
- * | S2 | not 1 <= m <= n <= 8 | 16 | 0 |
- * | S3 | fewer than 512 bytes | 2 | 1 |
- * | S4 | v no multiple of 512, below 512 or above 65,536 | 3 | 1 |
- * | S5 | fewer than v bytes | 2 | 1 |
- * | S6 | not 1 <= vsig_m <= vsig_n <= 8 | 4 | 1 |
- * | S7 | picture start + 65 above v | 5 | 1 |
- * | S8 | a byte that must be zero is not | 6 | 1 |
- * | S9 | expiry not 0 and time above expiry | 7 | 1 |
- * | S10 | sigmask has a bit at n or higher, or fewer than m ones | 8 | 1 |
+ * | S1 | the bytes do not start with `TRZV` | 1 | 1 |
+ * | S2 | m is 0, above n, or n above 8 | 16 | 0 |
+ * | S3 | the bytes are fewer than 512 | 2 | 1 |
+ * | S4 | v is not one of 512, 1,024 and so on up to 65,536 | 3 | 1 |
+ * | S5 | they are fewer than v | 2 | 1 |
+ * | S6 | vsig_m is 0, above vsig_n, or vsig_n above 8 | 4 | 1 |
+ * | S7 | keys and string leave no room for sigmask and sig | 5 | 1 |
+ * | S8 | bytes 18 to 31, or those between string and picture, are not all zero | 6 | 1 |
+ * | S9 | the vendor header has an expiry, and `time` is above it | 7 | 1 |
+ * | S10 | the sigmask names a key that is none of n, or fewer than m of them | 8 | 1 |
  * | S11 | `vendor` is false | 9 | 1 |
- * | S12 | fewer than v + 1,024 bytes | 2 | 2 |
- * | S13 | not `TRZF` | 10 | 2 |
- * | S14 | length of the firmware header not 1,024 | 11 | 2 |
- * | S15 | chunk 1 has no room | 17 | 2 |
- * | S16 | code length 0, no multiple of 4, or above 2,097,152 - 1,024 - v | 12 | 2 |
- * | S17 | a byte that must be zero is not | 6 | 2 |
- * | S18 | expiry not 0 and time above expiry | 7 | 2 |
- * | S19 | sigmask has a bit at vsig_n or higher, or fewer than vsig_m ones | 8 | 2 |
+ * | S12 | the bytes end before the firmware header does | 2 | 2 |
+ * | S13 | the firmware header does not start with `TRZF` | 10 | 2 |
+ * | S14 | it does not give its length as 1,024 | 11 | 2 |
+ * | S15 | chunk 1 would hold nothing; no v that passes S4 leads here | 17 | 2 |
+ * | S16 | the code length is 0, no multiple of 4, or above 2,097,152 - 1,024 - v | 12 | 2 |
+ * | S17 | its bytes 24 to 31, or 544 to 958, are not all zero | 6 | 2 |
+ * | S18 | it has an expiry, and `time` is above it | 7 | 2 |
+ * | S19 | its sigmask names a key that is none of vsig_n, or fewer than vsig_m of them | 8 | 2 |
  * | S20 | `firmware` is false | 9 | 2 |
- * | S21 | fewer than v + 1,024 + code length bytes | 2 | 3 |
- * | S22 | more bytes than that | 13 | 3 |
- * | S23 | lowest chunk whose hash is wrong, if the chunk holds code | 14 | 3 |
- * | S23 | the same, if it holds none | 15 | 3 |
+ * | S21 | the bytes end before the code does | 2 | 3 |
+ * | S22 | bytes follow the code | 13 | 3 |
+ * | S23 | the first chunk with a wrong hash holds code | 14 | 3 |
+ * | S23 | it holds none, and its hash is not all zero | 15 | 3 |
  *
  * The bytes are read and not changed.
  *
