@@ -2,11 +2,11 @@
 use crate::show::print;
 use crate::show::print_answer;
 use crate::show::print_number;
-use field::part;
 use header::Inputs;
 use image::Answer;
 use image::check_file;
 use image::check_slot;
+use octets::part;
 
 // How an image is asked about: as a slot or as a file, how many bytes of the buffer it has, and the
 // inputs.

@@ -4,10 +4,10 @@
 // Every function is total: what would fall past the end of the buffer is dropped, and a copy that
 // would is not made.
 use blake2s::blake2s;
-use field::byte_at;
-use field::minus;
-use field::part;
-use field::put::put_bytes;
+use octets::byte_at;
+use octets::minus;
+use octets::part;
+use octets::put::put_bytes;
 
 pub fn set(b: &mut [u8], at: usize, x: u8) {
     if at < b.len() {

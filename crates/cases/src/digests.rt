@@ -7,13 +7,13 @@ use crate::show::print;
 use crate::show::print_digest;
 use crate::show::print_number;
 use crate::show::print_refusal;
-use field::byte_at;
-use field::part;
-use field::u32_at;
 use header::Outcome;
-use questions::Digest;
-use questions::firmware_digest;
-use questions::vendor_digest;
+use octets::byte_at;
+use octets::part;
+use octets::u32_at;
+use signing::Digest;
+use signing::firmware_digest;
+use signing::vendor_digest;
 
 pub fn print_reply(reply: Digest) {
     let outcome = reply.outcome;

@@ -7,8 +7,8 @@ use crate::ask::title;
 use crate::build::set;
 use crate::build::word;
 use crate::show::print_number;
-use field::byte_at;
-use field::u32_at;
+use octets::byte_at;
+use octets::u32_at;
 
 fn broken(b: &mut [u8], at: u32, x: u8, asked: Asked) {
     let at = at as usize;

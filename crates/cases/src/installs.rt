@@ -14,18 +14,18 @@ use crate::show::print_answer;
 use crate::show::print_number;
 use crate::show::print_size;
 use blake2s::blake2s;
-use field::all_are;
-use field::minus;
-use field::part;
-use field::rest;
-use field::same_digest;
-use field::starts_with;
 use header::Outcome;
 use image::check_slot;
 use installer::Reply;
 use installer::Session;
 use installer::Turn;
-use questions::Digest;
+use octets::all_are;
+use octets::minus;
+use octets::part;
+use octets::rest;
+use octets::same_digest;
+use octets::starts_with;
+use signing::Digest;
 use std::num::wrapping_add_u32;
 
 // An install on its way: its record, how many fill calls it had, and how many calls between the

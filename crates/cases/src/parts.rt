@@ -11,14 +11,14 @@ use crate::show::print;
 use crate::show::print_hex;
 use crate::show::print_number;
 use crate::show::wide;
-use field::byte_at;
-use field::minus;
-use field::part;
 use header::trust::Trust;
 use header::trust::trust_of;
 use image::code;
 use image::picture;
 use image::string;
+use octets::byte_at;
+use octets::minus;
+use octets::part;
 
 // How many bytes a part has, its first and its last.
 fn print_part(label: &[u8], bytes: &[u8]) {

@@ -15,14 +15,14 @@ use crate::show::print_rejected;
 use crate::show::print_size;
 use crate::show::print_word;
 use blake2s::blake2s;
-use field::byte_at;
-use field::part;
-use field::rest;
-use field::same_digest;
-use field::starts_with;
 use installer::Reply;
 use installer::Session;
 use installer::Turn;
+use octets::byte_at;
+use octets::part;
+use octets::rest;
+use octets::same_digest;
+use octets::starts_with;
 
 pub fn print_outcome(reply: Reply) {
     match reply {

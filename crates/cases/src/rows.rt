@@ -1,8 +1,8 @@
 // Tables of cases as text. A line is a row: its numbers are the row's values, and the words between
 // them say which they are. The program prints each row as it stands, and the answer behind it.
-use field::byte_at;
-use field::minus;
-use field::part;
+use octets::byte_at;
+use octets::minus;
+use octets::part;
 
 // Whether a row starts at a place.
 pub fn starts(table: &[u8], at: usize) -> bool {

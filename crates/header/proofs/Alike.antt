@@ -10,8 +10,8 @@ use lib.ListN.{length, getD, take, drop, length-take, length-drop}
 use lib.Seq.{ext-getD, getD-take, getD-drop}
 use lib.Dec.{ltb, eqb}
 use borrow.Author.Tests.{lt-ltb, le-ltb, ltb-false}
-use Rattle.field.specs.Field.{u16At, u32At, between, bytesAt, allAre, startsWith}
-use Rattle.field.proofs.Laws.{split}
+use Rattle.octets.specs.Read.{u16At, u32At, between, bytesAt, allAre, startsWith}
+use Rattle.octets.proofs.Laws.{split}
 use Rattle.header.specs.Layout.{TRZF, vendorLen, signersNeeded, keyCount, stringLen, stringLenAt, stringEnd, pictureStart, maskAt, codeLen, imageLen, firstRoom}
 use Rattle.header.specs.Steps.{keysImpossible, lengthImpossible, expired, maskWrong, codeLenImpossible, shorterThanAnyHeader, vendorLenImpossible, vendorHeaderCut, vendorKeysImpossible, stringLeavesNoRoom, vendorBytesNotZero, vendorExpired, vendorMaskWrong, firmwareHeaderCut, firmwareMagicMissing, firmwareLenWrong, firstChunkHasNoRoom, codeLenWrong, firmwareBytesNotZero, firmwareExpired, firmwareMaskWrong, codeCut}
 use Rattle.header.specs.Table.{firstFailing, vendorShape, vendorPolicy, firmwareShape, firmwarePolicy, headerRows}

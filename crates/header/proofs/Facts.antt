@@ -8,9 +8,9 @@ use native.Mathlib.Omega.{arith}
 use lib.ListN.{length}
 use lib.Dec.{leb, ltb, eqb}
 use borrow.Author.Tests.{ltb-false, leb-true, eqb-true, eqb-false, not-false, lt-ltb}
-use Rattle.field.specs.Field.{between, allAre, startsWith}
-use Rattle.field.specs.Rounding.{multipleOf}
-use Rattle.field.proofs.Laws.{and-left, and-right}
+use Rattle.octets.specs.Read.{between, allAre, startsWith}
+use Rattle.octets.specs.Rounding.{multipleOf}
+use Rattle.octets.proofs.Laws.{and-left, and-right}
 use Rattle.header.specs.Layout.{TRZF, vendorLen, vendorExpiry, signersNeeded, keyCount, stringLen, stringEnd, pictureStart, vendorMask, firmwareMagic, firmwareLen, firmwareExpiry, codeLen, firmwareMask, imageLen, firstRoom}
 use Rattle.header.specs.Steps.{keysImpossible, lengthImpossible, expired, maskWrong, codeLenImpossible, policyImpossible, shorterThanAnyHeader, vendorLenImpossible, vendorHeaderCut, vendorKeysImpossible, stringLeavesNoRoom, vendorBytesNotZero, vendorExpired, vendorMaskWrong, firmwareHeaderCut, firmwareMagicMissing, firmwareLenWrong, firstChunkHasNoRoom, codeLenWrong, firmwareBytesNotZero, firmwareExpired, firmwareMaskWrong, codeCut}
 use Rattle.header.specs.Table.{refusal, firstFailing, vendorShape, vendorPolicy, firmwareShape, firmwarePolicy, headerRows, extentRows}

@@ -11,8 +11,8 @@ use lib.ListN.{length, getD, drop, length-append, length-drop}
 use lib.Seq.{getD-drop, getD-append-add}
 use lib.Dec.{leb, eqb}
 use borrow.Author.Tests.{leb-true, le-leb}
-use Rattle.field.specs.Field.{startsWith}
-use Rattle.field.proofs.Laws.{split}
+use Rattle.octets.specs.Read.{startsWith}
+use Rattle.octets.proofs.Laws.{split}
 use Rattle.header.specs.Layout.{TRZV}
 use Rattle.header.specs.Steps.{vendorMagicMissing}
 use Rattle.header.specs.Table.{firstFailing, vendorShape, firmwareShape, headerRows}

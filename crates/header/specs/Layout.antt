@@ -3,8 +3,8 @@
 use Prim.Native.Nat.{ℕ, _+_, _-_, _*_}
 use mathlib.Core.List.{List, [], _∷_}
 use lib.ListN.{getD}
-use Rattle.field.specs.Field.{u16At, u32At, between}
-use Rattle.field.specs.Rounding.{roundUp}
+use Rattle.octets.specs.Read.{u16At, u32At, between}
+use Rattle.octets.specs.Rounding.{roundUp}
 
 -- ---- the vendor header, v bytes
 

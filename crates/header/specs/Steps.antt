@@ -5,8 +5,8 @@ use mathlib.Core.List.{List}
 use mathlib.Core.Bool.{Bool, not, _&&_, _||_}
 use lib.ListN.{length, drop}
 use lib.Dec.{leb, ltb, eqb}
-use Rattle.field.specs.Field.{between, allAre, startsWith, bitAtOrAbove, onesOf}
-use Rattle.field.specs.Rounding.{multipleOf}
+use Rattle.octets.specs.Read.{between, allAre, startsWith, bitAtOrAbove, onesOf}
+use Rattle.octets.specs.Rounding.{multipleOf}
 use Rattle.header.specs.Layout.{TRZV, TRZF, vendorLen, vendorExpiry, signersNeeded, keyCount, stringLen, stringEnd, pictureStart, vendorMask, firmwareMagic, firmwareLen, firmwareExpiry, codeLen, firmwareMask, imageLen, firstRoom}
 
 -- ---- tests that several steps, and the writers, share

@@ -2,7 +2,7 @@
 -- Assumes nothing.
 use Prim.Native.Nat.{ℕ, _+_, _^_}
 use mathlib.Core.Bool.{cond}
-use Rattle.field.specs.Field.{bitUnset}
+use Rattle.octets.specs.Read.{bitUnset}
 use Rattle.header.specs.declared.trust.Trust.{Trust}
 
 -- the seconds that bit k adds

@@ -1,9 +1,9 @@
 // Where fields stand, and what stands there.
-use field::byte_at;
-use field::minus;
-use field::part;
-use field::u16_at;
-use field::u32_at;
+use octets::byte_at;
+use octets::minus;
+use octets::part;
+use octets::u16_at;
+use octets::u32_at;
 ghost use mathlib.Core.Path.{_≡_};
 ghost use Rattle.header.specs.Layout.{vendorLen, vendorExpiry, signersNeeded, keyCount, vtrust, stringLen, stringStart, stringEnd, pictureStart, vendorMask, firmwareMagic, firmwareLen, firmwareExpiry, codeLen, firmwareMask, codeStart, imageLen, firstRoom};
 

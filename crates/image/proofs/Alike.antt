@@ -9,7 +9,7 @@ use native.Mathlib.Omega.{arith}
 use lib.ListN.{length, getD, drop}
 use lib.Dec.{ltb}
 use borrow.Author.Tests.{le-leb}
-use Rattle.field.specs.Field.{between, startsWith}
+use Rattle.octets.specs.Read.{between, startsWith}
 use Rattle.header.specs.Layout.{TRZV, vendorLen, codeStart, imageLen, firstRoom}
 use Rattle.header.specs.Steps.{bytesFollow}
 use Rattle.header.specs.Table.{Row, firstFailing, headerRows, extentRows}

@@ -9,7 +9,7 @@ use lib.ListN.{length, take, replicate, length-append, List·getD-append}
 use lib.Seq.{drop-append-seam}
 use lib.Dec.{leb, ltb}
 use borrow.Author.Tests.{le-leb, leb-true, lt-ltb, ltb-true}
-use Rattle.field.specs.Field.{allAre}
+use Rattle.octets.specs.Read.{allAre}
 use Rattle.header.specs.Layout.{TRZV, vendorLen, imageLen}
 use Rattle.header.specs.Steps.{vendorMagicMissing, bytesFollow, tailNotErased}
 use Rattle.header.specs.Table.{firstFailing, headerRows}

@@ -7,8 +7,8 @@ use mathlib.Core.Bool.{Bool, true, not}
 use native.Mathlib.Omega.{arith}
 use lib.ListN.{length, drop, length-take, length-drop}
 use borrow.Author.Tests.{ltb-false, le-ltb, not-false}
-use Rattle.field.specs.Field.{between, allAre}
-use Rattle.field.proofs.Laws.{between-end}
+use Rattle.octets.specs.Read.{between, allAre}
+use Rattle.octets.proofs.Laws.{between-end}
 use Rattle.header.specs.Layout.{vendorLen, codeLen, codeStart, imageLen, firstRoom}
 use Rattle.header.specs.Steps.{vendorMagicMissing, codeCut, bytesFollow, tailNotErased}
 use Rattle.header.specs.Table.{firstFailing, headerRows, extentRows}

@@ -10,8 +10,8 @@ use native.Mathlib.Omega.{arith}
 use lib.ListN.{length, getD, take, set, replicate, length-append, length-take, length-drop, List·getD-append}
 use lib.Seq.{take-suc-set, ext-getD, getD-at}
 use borrow.Author.Tests.{not-false}
-use Rattle.field.specs.Field.{between, bytesAt, same}
-use Rattle.field.proofs.Laws.{split, between-past, same-self, same-equal}
+use Rattle.octets.specs.Read.{between, bytesAt, same}
+use Rattle.octets.proofs.Laws.{split, between-past, same-self, same-equal}
 use Rattle.blake2s.specs.Rfc7693.{blake2sOf, serialised, bytesOf}
 use Rattle.header.specs.Layout.{vendorLen, firstRoom}
 use Rattle.header.specs.Table.{Row, row, firstFailing}

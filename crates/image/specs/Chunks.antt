@@ -5,7 +5,7 @@ use Prim.Native.Nat.{ℕ, zero, suc, _+_, _*_}
 use mathlib.Core.List.{List, [], _∷_, _++_}
 use mathlib.Core.Bool.{not}
 use lib.ListN.{getD, replicate}
-use Rattle.field.specs.Field.{between, bytesAt, same}
+use Rattle.octets.specs.Read.{between, bytesAt, same}
 use Rattle.blake2s.specs.Rfc7693.{blake2sOf}
 use Rattle.header.specs.Layout.{vendorLen, codeStart, imageLen, firstRoom}
 use Rattle.header.specs.Table.{Row, row}

@@ -2,7 +2,7 @@
 -- Assumes nothing.
 use mathlib.Core.List.{List, []}
 use Prim.Native.Nat.{ℕ}
-use Rattle.field.specs.Field.{between}
+use Rattle.octets.specs.Read.{between}
 use Rattle.header.specs.Layout.{vendorLen, keyCount, stringLen, stringStart, stringEnd, pictureStart, maskAt}
 use Rattle.image.specs.declared.Answer.{Answer}
 use Rattle.image.specs.declared.Answer.the-variants.{Accepted, Rejected}

@@ -3,15 +3,15 @@
 // The chunks are told by the room that the first one has, which is all that differs between one
 // family of images and another. The writer makes its hashes with the same calls.
 use blake2s::blake2s;
-use field::digest_at;
-use field::part;
-use field::same_digest;
 use header::Outcome;
 use header::Refusal;
 use header::layout::code_start;
 use header::layout::first_room;
 use header::layout::image_len;
 use header::layout::vendor_len;
+use octets::digest_at;
+use octets::part;
+use octets::same_digest;
 ghost use mathlib.Core.Path.{_≡_};
 ghost use mathlib.Core.List.{[], _∷_};
 ghost use Rattle.header.specs.Table.{firstFailing};

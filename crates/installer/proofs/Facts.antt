@@ -7,8 +7,8 @@ use mathlib.Core.List.{List, [], _∷_}
 use Prim.Native.Nat.{ℕ, _+_, _%_, _≤_}
 use lib.Dec.{eqb, leb}
 use borrow.Author.Tests.{eqb-true, leb-true, eq-eqb, le-leb, not-true, not-false}
-use Rattle.field.specs.Rounding.{multipleOf}
-use Rattle.field.proofs.Laws.{and-left, and-right}
+use Rattle.octets.specs.Rounding.{multipleOf}
+use Rattle.octets.proofs.Laws.{and-left, and-right}
 use Rattle.installer.specs.Record.{slotLenRight, fileLenRight, pagesOf, wordsStored, sound, full}
 use Rattle.installer.specs.declared.Session.{Session}
 

@@ -13,8 +13,8 @@ use Rattle.header.specs.declared.Inputs.{Inputs}
 use Rattle.image.specs.Check.{checkFile}
 use Rattle.image.specs.declared.Answer.{Answer}
 use Rattle.image.specs.declared.Answer.the-variants.{Accepted, Rejected}
-use Rattle.questions.specs.Questions.{vendorDigest, firmwareDigest}
-use Rattle.questions.specs.declared.Digest.{Digest}
+use Rattle.signing.specs.Digests.{vendorDigest, firmwareDigest}
+use Rattle.signing.specs.declared.Digest.{Digest}
 use Rattle.installer.specs.Record.{slotLenRight, fileLenRight, erasing, filling, full, newRecord, withPage, withBytes, over}
 use Rattle.installer.specs.declared.Session.{Session}
 use Rattle.installer.specs.declared.Asked.{Asked}

@@ -4,7 +4,7 @@ use Prim.Native.Nat.{ℕ, _+_, _-_, _/_}
 use mathlib.Core.List.{List, [], _∷_}
 use mathlib.Core.Bool.{Bool, false, _&&_, _||_}
 use lib.Dec.{eqb, leb}
-use Rattle.field.specs.Rounding.{multipleOf}
+use Rattle.octets.specs.Rounding.{multipleOf}
 use Rattle.installer.specs.declared.Session.{Session}
 
 -- a slot's length that begin takes: a multiple of 4,096, from 4,096 to 2,097,152

@@ -1,7 +1,7 @@
 // The two images of the rehearsal: a vendor header of 512 bytes, a firmware header of 1,024 and four
 // bytes of code, made by the writers. The chip's verdicts are inputs, so any signature serves.
-use field::put::put_bytes;
 use image::Version;
+use octets::put::put_bytes;
 use writer::Firmware;
 use writer::Vendor;
 use writer::Written;

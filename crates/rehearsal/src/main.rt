@@ -8,9 +8,6 @@
 mod images;
 mod table;
 
-use field::part;
-use field::put::put_bytes;
-use field::rest;
 use header::Outcome;
 use images::write_image;
 use installer::Reply;
@@ -20,7 +17,10 @@ use installer::begin;
 use installer::close;
 use installer::erase;
 use installer::fill;
-use questions::Digest;
+use octets::part;
+use octets::put::put_bytes;
+use octets::rest;
+use signing::Digest;
 use table::Call;
 use table::followed;
 use table::given;

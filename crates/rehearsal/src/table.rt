@@ -1,7 +1,5 @@
 // What the signer does at its next start, and the table that tells it: a line for each run of calls
 // after which it is the same. Every number printed is counted or answered, none is text.
-use field::minus;
-use field::part;
 use header::Inputs;
 use image::Answer;
 use image::Version;
@@ -10,6 +8,8 @@ use image::check_slot;
 use installer::Reply;
 use installer::Session;
 use libc::STDOUT_FILENO;
+use octets::minus;
+use octets::part;
 
 // The width of the table's first column.
 const COLUMN: usize = 34;

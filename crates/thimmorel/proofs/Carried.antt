@@ -10,11 +10,11 @@ use lib.Dec.{eqb, leb}
 use lib.ListN.{length, getD, take, drop}
 use lib.Seq.{take-all, getD-drop, paste, length-paste}
 use borrow.Author.Tests.{leb-true}
-use Rattle.field.specs.Field.{u32At, between, bytesAt}
-use Rattle.field.specs.Rounding.{multipleOf}
-use Rattle.field.specs.Put.{le32}
-use Rattle.field.proofs.Laws.{and-right, bytes-between}
-use Rattle.field.proofs.Numbers.{bytes-of}
+use Rattle.octets.specs.Read.{u32At, between, bytesAt}
+use Rattle.octets.specs.Rounding.{multipleOf}
+use Rattle.octets.specs.Put.{le32}
+use Rattle.octets.proofs.Laws.{and-right, bytes-between}
+use Rattle.octets.proofs.Numbers.{bytes-of}
 use Rattle.flash.specs.Flash.{startsErased}
 use Rattle.image.specs.Check.{checkFile}
 use Rattle.image.specs.declared.Answer.{Answer}

@@ -5,8 +5,8 @@ use mathlib.Core.Bool.{cond}
 use mathlib.Core.List.{List, [], _∷_, _++_}
 use lib.Dec.{eqb}
 use lib.ListN.{getD}
-use Rattle.field.specs.Field.{u32At}
-use Rattle.field.specs.Put.{le32}
+use Rattle.octets.specs.Read.{u32At}
+use Rattle.octets.specs.Put.{le32}
 use Rattle.installer.specs.declared.Session.{Session}
 use Rattle.installer.specs.declared.Asked.{Asked}
 use Rattle.installer.specs.declared.Turn.{Turn}

@@ -1,10 +1,10 @@
 // The digest questions, for C.
 use header::Outcome;
-use questions::Digest;
-use questions::firmware_digest;
-use questions::vendor_digest;
+use signing::Digest;
+use signing::firmware_digest;
+use signing::vendor_digest;
 ghost use mathlib.Core.Path.{_≡_};
-ghost use Rattle.questions.specs.Questions.{vendorDigest, firmwareDigest};
+ghost use Rattle.signing.specs.Digests.{vendorDigest, firmwareDigest};
 ghost use Rattle.thimmorel.specs.Words.{outcomeNumber, outcomeWhere, digestBytes};
 
 pub fn outcome_number(outcome: Outcome) -> u32

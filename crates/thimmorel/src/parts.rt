@@ -1,5 +1,4 @@
 // The parts of an accepted image, and the vendor's trust, for C.
-use field::minus;
 use header::layout::code_start;
 use header::layout::image_len;
 use header::layout::key_count;
@@ -11,6 +10,7 @@ use header::layout::vendor_len;
 use header::layout::vtrust;
 use header::trust::Trust;
 use header::trust::trust_of;
+use octets::minus;
 ghost use mathlib.Core.Path.{_≡_};
 ghost use Prim.Native.Nat.{min};
 ghost use Rattle.header.specs.Layout.{vtrust};

@@ -1,14 +1,14 @@
 // A session's record in sixteen words, for C.
 use crate::parts::flag;
-use field::put::byte0;
-use field::put::byte1;
-use field::put::byte2;
-use field::put::byte3;
-use field::u32_at;
 use installer::Session;
+use octets::put::byte0;
+use octets::put::byte1;
+use octets::put::byte2;
+use octets::put::byte3;
+use octets::u32_at;
 ghost use mathlib.Core.Path.{_≡_};
 ghost use Prim.Native.Nat.{_%_};
-ghost use Rattle.field.specs.Put.{le32};
+ghost use Rattle.octets.specs.Put.{le32};
 ghost use Rattle.thimmorel.specs.Session.{sessionOf, wordsOf};
 
 fn bytes_of(w: u32) -> [u8; 4]

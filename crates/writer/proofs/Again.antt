@@ -7,8 +7,8 @@ use Prim.Native.Nat.{ℕ, _+_, _-_, _*_, _/_, _%_, _≤_, _<_}
 use native.Mathlib.Omega.{arith}
 use lib.ListN.{length, getD, drop, drop-of-length-le}
 use borrow.Author.Tests.{not-false, eq-eqb, le-ltb}
-use Rattle.field.specs.Field.{between, startsWith}
-use Rattle.field.specs.Put.{le16, le32, zeros}
+use Rattle.octets.specs.Read.{between, startsWith}
+use Rattle.octets.specs.Put.{le16, le32, zeros}
 use Rattle.header.specs.Layout.{TRZV, TRZF, vendorLen, vendorExpiry, signersNeeded, keyCount, vtrust, stringLenAt, stringStart, stringLen, stringEnd, pictureStart, maskAt, vendorMask, firmwareExpiry, firmwareMask, codeLen, imageLen, firstRoom}
 use Rattle.header.specs.Steps.{vendorMagicMissing}
 use Rattle.header.proofs.Rows.{passes-here, ends}

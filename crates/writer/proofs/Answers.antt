@@ -11,8 +11,8 @@ use Rattle.header.specs.Table.{firstFailing}
 use Rattle.header.specs.declared.Outcome.{Outcome}
 use Rattle.header.specs.declared.Outcome.the-variants.{Pass}
 use Rattle.header.proofs.Rows.{passes-here, stage-passes}
-use Rattle.questions.specs.Questions.{vendorRows, firmwareRows, signedVendor, signedFirmware, answered, vendorDigest, firmwareDigest}
-use Rattle.questions.specs.declared.Digest.{Digest}
+use Rattle.signing.specs.Digests.{vendorRows, firmwareRows, signedVendor, signedFirmware, answered, vendorDigest, firmwareDigest}
+use Rattle.signing.specs.declared.Digest.{Digest}
 use Rattle.writer.specs.Vendor.{vendorHead, vendorFront, vendorRefusals}
 use Rattle.writer.specs.Firmware.{firmwareHead}
 use Rattle.writer.specs.Parts.{Parts, sizeOf, fileOf, Sized, Taken}

@@ -10,10 +10,10 @@ use lib.ListN.{length, getD, take, drop, length-take, length-drop, take-append-d
 use lib.Seq.{drop-cons, drop-drop, take-add, getD-append-add, drop-append-add, take-at, drop-at}
 use lib.Dec.{eqb}
 use borrow.Author.Tests.{eqb-true}
-use Rattle.field.specs.Field.{u16At, u32At, between, allAre, startsWith}
-use Rattle.field.specs.Put.{le16, le32, zeros}
-use Rattle.field.proofs.Laws.{and-left, and-right}
-use Rattle.field.proofs.Numbers.{bytes-of, halves-of, word-below}
+use Rattle.octets.specs.Read.{u16At, u32At, between, allAre, startsWith}
+use Rattle.octets.specs.Put.{le16, le32, zeros}
+use Rattle.octets.proofs.Laws.{and-left, and-right}
+use Rattle.octets.proofs.Numbers.{bytes-of, halves-of, word-below}
 
 -- ---- read behind other bytes p
 

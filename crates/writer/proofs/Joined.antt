@@ -7,8 +7,8 @@ use native.Mathlib.Omega.{arith}
 use native.Mathlib.Numerals.{add-one}
 use lib.ListN.{length, getD, take, length-append}
 use lib.Seq.{take-suc}
-use Rattle.field.specs.Field.{between, bytesAt}
-use Rattle.field.proofs.Laws.{between-none, bytes-between}
+use Rattle.octets.specs.Read.{between, bytesAt}
+use Rattle.octets.proofs.Laws.{between-none, bytes-between}
 use Rattle.image.specs.Chunks.{chunk, hashOf, hashesOf, hashesAt}
 use Rattle.image.proofs.Hashes.{hash-length}
 use Rattle.writer.specs.Firmware.{joined}

@@ -8,7 +8,7 @@ use native.Mathlib.Omega.{arith}
 use lib.ListN.{length, getD, length-append}
 use lib.Seq.{drop-at}
 use borrow.Author.Tests.{le-ltb, ne-eqb}
-use Rattle.field.specs.Put.{zeros}
+use Rattle.octets.specs.Put.{zeros}
 use Rattle.header.specs.Layout.{vendorLen, stringLenAt, stringLen, pictureStart, imageLen, firstRoom}
 use Rattle.header.specs.Steps.{policyImpossible, vendorMagicMissing, shorterThanAnyHeader, vendorLenImpossible, vendorHeaderCut, vendorKeysImpossible, stringLeavesNoRoom, vendorBytesNotZero, vendorExpired, vendorMaskWrong, firmwareHeaderCut, firmwareMagicMissing, firmwareLenWrong, firstChunkHasNoRoom, codeLenWrong, firmwareBytesNotZero, firmwareExpired, firmwareMaskWrong}
 use Rattle.header.specs.Table.{firstFailing, vendorShape, vendorPolicy, firmwareShape, firmwarePolicy, headerRows}

@@ -6,7 +6,7 @@ use mathlib.Core.Bool.{true}
 use native.Mathlib.Omega.{arith}
 use lib.ListN.{replicate}
 use lib.Count.{ones}
-use Rattle.field.specs.Field.{bitAtOrAbove, onesOf}
+use Rattle.octets.specs.Read.{bitAtOrAbove, onesOf}
 use Rattle.header.specs.Table.{firstFailing}
 use Rattle.header.specs.declared.Inputs.{Inputs}
 use Rattle.writer.specs.Vendor.{vendorRefusals}

@@ -7,10 +7,10 @@ use Prim.Native.Nat.{ℕ, _+_, _-_, _*_, _≤_, _<_}
 use native.Mathlib.Omega.{arith}
 use lib.ListN.{length, getD, length-append}
 use lib.Seq.{getD-at}
-use Rattle.field.specs.Field.{u32At, between, allAre, startsWith}
-use Rattle.field.specs.Put.{zeros}
-use Rattle.field.proofs.Numbers.{word-of}
-use Rattle.field.proofs.Splice.{length-zeros}
+use Rattle.octets.specs.Read.{u32At, between, allAre, startsWith}
+use Rattle.octets.specs.Put.{zeros}
+use Rattle.octets.proofs.Numbers.{word-of}
+use Rattle.octets.proofs.Splice.{length-zeros}
 use Rattle.header.specs.Layout.{TRZV, TRZF, vendorLen, vendorExpiry, signersNeeded, keyCount, stringLenAt, stringEnd, pictureStart, maskAt}
 use Rattle.image.specs.Answer.{versionAt}
 use Rattle.writer.specs.Vendor.{vendorHead, vendorFront, vendorBack, vendorFields}

@@ -8,9 +8,9 @@ use native.Mathlib.Omega.{arith}
 use lib.ListN.{length, length-append}
 use lib.Dec.{ltb, eqb}
 use borrow.Author.Tests.{ltb-false, eqb-true, not-false}
-use Rattle.field.specs.Put.{Put}
-use Rattle.field.specs.Rounding.{roundUp}
-use Rattle.field.proofs.Splice.{splice-start, length-zeros}
+use Rattle.octets.specs.Put.{Put}
+use Rattle.octets.specs.Rounding.{roundUp}
+use Rattle.octets.proofs.Splice.{splice-start, length-zeros}
 use Rattle.header.specs.Layout.{pictureStart}
 use Rattle.header.specs.Steps.{keysImpossible}
 use Rattle.header.specs.Table.{firstFailing}

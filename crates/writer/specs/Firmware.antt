@@ -4,7 +4,7 @@ use Prim.Native.Nat.{ℕ}
 use mathlib.Core.List.{List, [], _∷_, _++_}
 use lib.ListN.{length}
 use lib.Dec.{ltb}
-use Rattle.field.specs.Put.{le32, zeros}
+use Rattle.octets.specs.Put.{le32, zeros}
 use Rattle.header.specs.Layout.{TRZF, firstRoom}
 use Rattle.header.specs.Steps.{lengthImpossible, codeLenImpossible}
 use Rattle.header.specs.Table.{Row, step}

@@ -5,7 +5,7 @@ use mathlib.Core.Path.{_≡_}
 use mathlib.Core.List.{List, _++_}
 use mathlib.Core.Bool.{false}
 use lib.ListN.{length, getD}
-use Rattle.field.specs.Field.{between}
+use Rattle.octets.specs.Read.{between}
 use Rattle.header.specs.Layout.{vendorLen, vendorExpiry, signersNeeded, keyCount, vtrust, stringLenAt, vendorMask, firmwareExpiry, firmwareMask}
 use Rattle.header.specs.Steps.{keysImpossible, expired, maskWrong}
 use Rattle.header.specs.Table.{firstFailing}

@@ -10,7 +10,7 @@ use Rattle.header.specs.declared.Outcome.the-variants.{Pass}
 use Rattle.image.specs.Check.{checkFile}
 use Rattle.image.specs.declared.Image.{Image}
 use Rattle.image.specs.declared.Answer.the-variants.{Accepted}
-use Rattle.questions.specs.Questions.{vendorDigest, firmwareDigest}
+use Rattle.signing.specs.Digests.{vendorDigest, firmwareDigest}
 use Rattle.writer.specs.declared.Vendor.{Vendor}
 use Rattle.writer.specs.declared.Firmware.{Firmware}
 use Rattle.writer.specs.Parts.{Parts, sizeOf, fileOf, Sized, Taken, WellFormed, partsOf}

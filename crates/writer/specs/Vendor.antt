@@ -5,8 +5,8 @@ use mathlib.Core.List.{List, [], _∷_, _++_}
 use mathlib.Core.Bool.{not, _||_}
 use lib.ListN.{length}
 use lib.Dec.{ltb, eqb}
-use Rattle.field.specs.Put.{le16, le32, zeros}
-use Rattle.field.specs.Rounding.{roundUp}
+use Rattle.octets.specs.Put.{le16, le32, zeros}
+use Rattle.octets.specs.Rounding.{roundUp}
 use Rattle.header.specs.Layout.{TRZV, stringEnd, pictureStart, maskAt}
 use Rattle.header.specs.Steps.{keysImpossible}
 use Rattle.header.specs.Table.{Row, step}

@@ -5,14 +5,6 @@
 // against its limit before it is added to another.
 pub mod theorems;
 
-use field::part;
-use field::put::byte0;
-use field::put::byte1;
-use field::put::byte2;
-use field::put::byte3;
-use field::put::put_byte;
-use field::put::put_bytes;
-use field::put::put_zeros;
 use header::Outcome;
 use header::layout::first_room;
 use header::layout::picture_start;
@@ -23,12 +15,20 @@ use header::table::refuse;
 use image::Version;
 use image::chunks::hash_of;
 use image::chunks::room_of;
+use octets::part;
+use octets::put::byte0;
+use octets::put::byte1;
+use octets::put::byte2;
+use octets::put::byte3;
+use octets::put::put_byte;
+use octets::put::put_bytes;
+use octets::put::put_zeros;
 ghost use mathlib.Core.Path.{_≡_};
 ghost use Prim.Native.Nat.{_+_, _≤_, _*_};
 ghost use lib.ListN.{length};
 ghost use lib.Dec.{ltb};
-ghost use Rattle.field.specs.Put.{Put};
-ghost use Rattle.field.specs.Rounding.{roundUp};
+ghost use Rattle.octets.specs.Put.{Put};
+ghost use Rattle.octets.specs.Rounding.{roundUp};
 ghost use Rattle.header.specs.Layout.{firstRoom, pictureStart};
 ghost use Rattle.header.specs.Table.{firstFailing};
 ghost use Rattle.image.specs.Chunks.{hashesOf};

@@ -2,7 +2,7 @@
 use denote.Ref.{now}
 use mathlib.Core.Path.{ap₂, _∙_}
 use Prim.Native.Nat.{ℕ}
-use Rattle.field.specs.Field.{between}
+use Rattle.octets.specs.Read.{between}
 use borrow.Author.Needs.{needs}
 use Rattle.image.proofs.code_area.Statement.{statement}
 use Rattle.image.proofs.code_area.Tie as tie

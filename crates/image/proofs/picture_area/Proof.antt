@@ -2,7 +2,7 @@
 use denote.Ref.{now}
 use mathlib.Core.Path.{ap, ap₂, _∙_}
 use Prim.Native.Nat.{ℕ}
-use Rattle.field.specs.Field.{between}
+use Rattle.octets.specs.Read.{between}
 use Rattle.header.specs.Layout.{pictureStart, maskAt}
 use borrow.Author.Needs.{needs}
 use Rattle.image.proofs.picture_area.Statement.{statement}

@@ -4,7 +4,7 @@ use mathlib.Core.Path.{_≡_}
 use Prim.Native.Nat.{_+_}
 use native.Mathlib.Nat.{add-zero}
 use borrow.Author.Needs.{needs}
-use Rattle.field.proofs.Laws.{byte-rest}
+use Rattle.octets.proofs.Laws.{byte-rest}
 use Rattle.image.proofs.version_at.Statement.{statement}
 use Rattle.image.proofs.version_at.Tie as tie
 

@@ -1,7 +1,7 @@
 -- `worked_numbers::worked_numbers_hold` meets its contract: both columns compute to the same numbers.
 use mathlib.Core.Path.{refl}
 use lib.Count.{ones}
-use Rattle.field.specs.Field.{u32At, between, onesOf, bitAtOrAbove}
+use Rattle.octets.specs.Read.{u32At, between, onesOf, bitAtOrAbove}
 use Rattle.header.specs.Steps.{shorterThanAnyHeader, vendorLenImpossible, vendorHeaderCut, vendorKeysImpossible, stringLeavesNoRoom, vendorBytesNotZero, vendorExpired, vendorMaskWrong}
 use Rattle.header.specs.Table.{firstFailing, vendorShape, vendorPolicy}
 use Rattle.header.specs.Trust.{trustOf}

@@ -1,7 +1,7 @@
 -- Five fields written one behind the other are one field.
 use mathlib.Core.List.{append-assoc}
 use borrow.Author.Needs.{needs}
-use Rattle.field.proofs.Splice.{next}
+use Rattle.octets.proofs.Splice.{next}
 use Rattle.writer.specs.Firmware.{firmwareFields}
 use Rattle.writer.proofs.firmware_fields.Statement.{statement}
 use Rattle.writer.proofs.firmware_fields.Tie as tie

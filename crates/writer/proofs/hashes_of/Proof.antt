@@ -6,7 +6,7 @@ use mathlib.Core.Path.{_≡_, refl, sym, ap, ap₂, _∙_}
 use lib.ListN.{length, take}
 use lib.Seq.{take-all}
 use borrow.Author.Needs.{needs}
-use Rattle.field.specs.Field.{between}
+use Rattle.octets.specs.Read.{between}
 use Rattle.image.specs.Chunks.{chunkStart, hashOf, hashesOf}
 use Rattle.image.proofs.Hashes.{room-most, start-more, start-most, chunk-is, hash-of-more}
 use Rattle.writer.proofs.hashes_of.Statement.{statement}

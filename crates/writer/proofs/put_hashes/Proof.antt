@@ -5,8 +5,8 @@ use mathlib.Core.Path.{_≡_, refl}
 use lib.ListN.{length, take}
 use lib.Seq.{take-all}
 use borrow.Author.Needs.{needs}
-use Rattle.field.specs.Put.{Put}
-use Rattle.field.proofs.Splice.{none, next}
+use Rattle.octets.specs.Put.{Put}
+use Rattle.octets.proofs.Splice.{none, next}
 use Rattle.writer.specs.Firmware.{joined}
 use Rattle.writer.proofs.Joined.{joined-more}
 use Rattle.writer.proofs.put_hashes.Statement.{statement}

@@ -4,7 +4,7 @@ use mathlib.Core.Path.{sym}
 use Prim.Native.Nat.{_+_}
 use borrow.Author.Needs.{needs}
 use borrow.Author.Tests.{lt-ltb}
-use Rattle.field.specs.Rounding.{roundUp}
+use Rattle.octets.specs.Rounding.{roundUp}
 use Rattle.writer.proofs.too_long.Statement.{statement}
 use Rattle.writer.proofs.too_long.Tie as tie
 

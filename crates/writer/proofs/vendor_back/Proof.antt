@@ -1,7 +1,7 @@
 -- Four fields written one behind the other are one field.
 use mathlib.Core.List.{append-assoc}
 use borrow.Author.Needs.{needs}
-use Rattle.field.proofs.Splice.{next}
+use Rattle.octets.proofs.Splice.{next}
 use Rattle.writer.specs.Vendor.{vendorBack}
 use Rattle.writer.proofs.vendor_back.Statement.{statement}
 use Rattle.writer.proofs.vendor_back.Tie as tie

@@ -6,7 +6,7 @@ use mathlib.Core.Path.{_≡_}
 use mathlib.Core.List.{append-assoc}
 use lib.ListN.{length}
 use borrow.Author.Needs.{needs}
-use Rattle.field.proofs.Splice.{next}
+use Rattle.octets.proofs.Splice.{next}
 use Rattle.header.specs.Layout.{stringEnd, pictureStart}
 use Rattle.writer.specs.Vendor.{vendorFront}
 use Rattle.writer.proofs.vendor_front.Statement.{statement}

@@ -4,7 +4,7 @@ use Prim.Native.Nat.{_+_, _≤_}
 use mathlib.Core.Path.{sym, _∙_}
 use borrow.Author.Needs.{needs}
 use borrow.Author.Tests.{ltb-false, lt-ltb, le-ltb}
-use Rattle.field.specs.Rounding.{roundUp}
+use Rattle.octets.specs.Rounding.{roundUp}
 use Rattle.header.proofs.Rows.{passes, fails, passes-here, fails-here, ends}
 use Rattle.writer.specs.Vendor.{vendorRefusals}
 use Rattle.writer.proofs.Taken.{lengths-right, too-long-is}

@@ -5,8 +5,8 @@ use Prim.Native.Nat.{ℕ, _+_}
 use mathlib.Core.Path.{_≡_, sym, ap, _∙_}
 use lib.ListN.{length}
 use borrow.Author.Needs.{needs}
-use Rattle.field.specs.Rounding.{roundUp}
-use Rattle.field.proofs.Splice.{next}
+use Rattle.octets.specs.Rounding.{roundUp}
+use Rattle.octets.proofs.Splice.{next}
 use Rattle.header.specs.Layout.{pictureStart}
 use Rattle.writer.specs.Vendor.{vendorSize, vendorFields}
 use Rattle.writer.proofs.Taken.{VendorFits, vendor-fits, length-front, refused, wrote}

@@ -3,7 +3,7 @@ use Prim.Native.Nat.{ℕ, _≤_}
 use mathlib.Core.Bool.{Bool, true, false, cond}
 use native.Mathlib.Omega.{arith}
 use borrow.Author.Needs.{needs}
-use Rattle.field.specs.Field.{bitUnset}
+use Rattle.octets.specs.Read.{bitUnset}
 use Rattle.header.specs.Trust.{trustOf}
 use Rattle.header.proofs.trust.trust_of.Statement.{statement}
 use Rattle.header.proofs.trust.trust_of.Tie as tie

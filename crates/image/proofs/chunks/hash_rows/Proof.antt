@@ -4,7 +4,7 @@ use borrow.Author.Needs.{needs}
 use native.Mathlib.Omega.{arith}
 use mathlib.Core.Path.{ap, ap₂, _∙_}
 use Prim.Native.Nat.{ℕ, _-_}
-use Rattle.field.specs.Field.{between}
+use Rattle.octets.specs.Read.{between}
 use Rattle.header.specs.Layout.{firstRoom}
 use Rattle.image.proofs.Hashes.{Reached, reached-first, room-small, start-small, reached-end, reached-next, reached-wrong}
 use Rattle.image.proofs.chunks.hash_rows.Statement.{statement}

@@ -5,8 +5,8 @@ use mathlib.Core.Path.{_≡_, _∙_}
 use mathlib.Core.List.{List, append-nil}
 use lib.ListN.{length, length-append, drop-of-length-le}
 use borrow.Author.Needs.{needs}
-use Rattle.field.specs.Put.{splice}
-use Rattle.field.proofs.Splice.{next, splice-start}
+use Rattle.octets.specs.Put.{splice}
+use Rattle.octets.proofs.Splice.{next, splice-start}
 use Rattle.thimmorel.proofs.install.put_digests.Statement.{statement}
 use Rattle.thimmorel.proofs.install.put_digests.Tie as tie
 

@@ -1,5 +1,0 @@
--- The laws that the proofs of field, and of the crates above it, cite.
-pub mod Laws
-pub mod Rounding
-pub mod Splice
-pub mod Numbers

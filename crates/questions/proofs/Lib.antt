@@ -1,2 +1,0 @@
--- The laws that the proofs of questions cite.
-pub mod Laws

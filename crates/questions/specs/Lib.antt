@@ -1,2 +1,0 @@
--- What the contracts of questions cite.
-pub mod Questions

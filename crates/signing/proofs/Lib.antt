@@ -1,0 +1,2 @@
+-- The laws that the proofs of signing cite.
+pub mod Laws

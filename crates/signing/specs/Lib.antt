@@ -1,0 +1,2 @@
+-- What the contracts of signing cite.
+pub mod Digests
