@@ -1,5 +1,5 @@
-"""The exchange of images, then faults that neither side accepts, and the differences that 01, the
-build specification, intends: one line for each, with the step of 01, the answer of the file check
+"""The exchange of images, then faults that neither side accepts, and the differences that
+docs/SPECIFICATION.md intends: one line for each, with the step, the answer of the file check
 here, and the answer of trezorlib's parse and validate there. It assumes trezorlib 0.12.4. The first
 answer that is not the expected one ends it with status 1."""
 
@@ -72,7 +72,7 @@ def accepted_by_neither(fields):
     return [
         ("S1, other vendor magic", answers(*changed(good, 0)), refused(1, 1), NO_PARSE),
         ("S3, fewer than 512 bytes", answers(good[:511]), refused(2, 1), NO_PARSE),
-        ("S4, v no multiple of 512", answers(*changed(good, 4)), refused(3, 1), NO_PARSE),
+        ("S4, v not a multiple of 512", answers(*changed(good, 4)), refused(3, 1), NO_PARSE),
         ("S6, 0 of 5 keys", answers(built(fields, m=0)), refused(4, 1), BAD_FIRMWARE),
         ("S6, 6 of 5 keys", answers(built(fields, m=6)), refused(4, 1), BAD_FIRMWARE),
         ("S7, string too long", answers(*changed(good, 192, byte=255)), refused(5, 1), NO_PARSE),
@@ -115,7 +115,7 @@ def refused_here(fields):
         ("S14, length of the firmware header not 1,024", answers(*changed(good, v + 4), older),
          refused(11, 2), OK),
         ("S16, no code", answers(built(fields, code=b"")), refused(12, 2), OK),
-        ("S16, code length no multiple of 4", answers(built(fields, code=bytes(6))),
+        ("S16, code length not a multiple of 4", answers(built(fields, code=bytes(6))),
          refused(12, 2), OK),
         ("S16, code past chunk 16, which has no hash there",
          answers(too_long, *changed(too_long, LARGEST)), refused(12, 2), OK),
@@ -193,7 +193,7 @@ def main():
     fields = plain()
     print("Here is the archive, there is trezorlib. Accepted by neither:")
     faults = show(accepted_by_neither(fields))
-    print("Different, as 01 intends:")
+    print("Different, as the specification intends:")
     differences = show(refused_here(fields) + refused_there(fields) + read_differently(fields))
     print(f"interop: {there} images built there and accepted here, {here} written here and parsed"
           f" there, {faults} faults accepted by neither, {differences} differences as intended")

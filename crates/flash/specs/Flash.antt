@@ -1,4 +1,4 @@
--- The flash (01, "The flash and the installer"): erased bytes, one page erased, one word stored. A page has 4,096 bytes and a word 4.
+-- The flash (specification, 9): erased bytes, one page erased, one word stored. A page has 4,096 bytes and a word 4.
 -- Assumes nothing.
 use Prim.Native.Nat.{ℕ, _+_, _*_}
 use mathlib.Core.List.{List, _++_}

@@ -1,4 +1,4 @@
--- Where each field of an image stands (01, "Vendor header" and "Firmware header"). A byte past the end reads as 0.
+-- Where each field of an image stands (specification, 2 to 4). A byte past the end reads as 0.
 -- Assumes nothing.
 use Prim.Native.Nat.{ℕ, _+_, _-_, _*_}
 use mathlib.Core.List.{List, [], _∷_}

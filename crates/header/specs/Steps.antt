@@ -1,4 +1,4 @@
--- The steps of the check that look at the headers and at lengths (01, "The check, in order"), each as a test that is true where the step fails.
+-- The steps of the check that look at the headers and at lengths (specification, 6), each as a test that is true where the step fails.
 -- Assumes nothing.
 use Prim.Native.Nat.{ℕ, _+_, _-_}
 use mathlib.Core.List.{List}
@@ -15,7 +15,7 @@ use Rattle.header.specs.Layout.{TRZV, TRZF, vendorLen, vendorExpiry, sig
 abbrev pub keysImpossible : ℕ → ℕ → Bool
 keysImpossible m n = not (leb 1 m && leb m n && leb n 8)
 
--- a vendor header's length that is no multiple of 512, below 512 or above 65,536
+-- a vendor header's length that is not a multiple of 512, below 512 or above 65,536
 abbrev pub lengthImpossible : ℕ → Bool
 lengthImpossible v = not (multipleOf 512 v) || ltb v 512 || ltb 65536 v
 
@@ -27,7 +27,7 @@ expired expiry time = not (eqb expiry 0) && ltb expiry time
 abbrev pub maskWrong : ℕ → ℕ → ℕ → Bool
 maskWrong m n mask = bitAtOrAbove n mask || ltb (onesOf mask) m
 
--- a code length that is 0, no multiple of 4, or above 2,097,152 - 1,024 - v
+-- a code length that is 0, not a multiple of 4, or above 2,097,152 - 1,024 - v
 abbrev pub codeLenImpossible : ℕ → ℕ → Bool
 codeLenImpossible v c = eqb c 0 || not (multipleOf 4 c) || ltb (2097152 - 1024 - v) c
 

@@ -1,4 +1,4 @@
--- The steps of the check as rows of a table, in the order of 01, "The check, in order". The first failing row answers.
+-- The steps of the check as rows of a table, in the order of the specification, 6. The first failing row answers.
 -- S23, which compares the hashes, has its rows in the crate image.
 -- Assumes nothing.
 use Prim.Native.Nat.{ℕ}

@@ -1,4 +1,4 @@
--- The vendor trust reading (01, "Vendor trust"): a feature is active where its bit is unset. Bits 8 to 15 have no reading.
+-- The vendor trust reading (specification, 7): a feature is active where its bit is unset. Bits 8 to 15 have no reading.
 -- Assumes nothing.
 use Prim.Native.Nat.{ℕ, _+_, _^_}
 use mathlib.Core.Bool.{cond}

@@ -1,5 +1,5 @@
 // The steps, each as a test that is true where the step fails. The definitions in
-// `specs/Steps.antt` say which step of the paper each is.
+// `specs/Steps.antt` say which step of the specification each is.
 use crate::layout::code_len;
 use crate::layout::firmware_expiry;
 use crate::layout::firmware_len;

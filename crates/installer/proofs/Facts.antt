@@ -12,7 +12,7 @@ use Rattle.octets.proofs.Laws.{and-left, and-right}
 use Rattle.installer.specs.Record.{slotLenRight, fileLenRight, pagesOf, wordsStored, sound, full}
 use Rattle.installer.specs.declared.Session.{Session}
 
--- the record is that of an open session on a slot of n bytes, and its numbers can be
+-- the record is that of an open session, and consistent with a slot of n bytes
 pub record Sound (s : Session) (n : ℕ) : Type 0 where
   pub pages : s .pages ≤ pagesOf n
   pub live : s .live ≡ true

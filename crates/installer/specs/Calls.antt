@@ -1,4 +1,4 @@
--- What each call of the installer gives (01, "The flash and the installer"): the record and the answer, and the slot.
+-- What each call of the installer gives (specification, 10.3 and 10.4): the record and the answer, and the slot.
 -- Assumes nothing.
 use Prim.Native.Nat.{ℕ, _+_, _*_, _-_, _/_, _%_, min}
 use mathlib.Core.List.{List, _++_}

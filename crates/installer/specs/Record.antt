@@ -1,4 +1,4 @@
--- The session's record, and when its numbers can be (01, the paragraph on 19).
+-- The session's record, and when it is consistent with a slot (specification, 10.2).
 -- Assumes nothing.
 use Prim.Native.Nat.{ℕ, _+_, _-_, _/_}
 use mathlib.Core.List.{List, [], _∷_}
@@ -22,7 +22,7 @@ pagesOf n = n / 4096
 abbrev pub wordsStored : ℕ → ℕ
 wordsStored t = t / 4 - 1
 
--- the record is that of an open session on a slot of n bytes, and its numbers can be
+-- the record is that of an open session, and consistent with a slot of n bytes: some session reaches it
 unfoldable pub sound : Session → ℕ → Bool
 sound s n =
     leb (s .pages) (pagesOf n)

@@ -1,4 +1,4 @@
--- What the installer's calls answer: the paper's number and values of every case.
+-- What the installer's calls answer: the specification's number (14) and the values of every case.
 -- Assumes nothing.
 use Prim.Native.Nat.{ℕ}
 use mathlib.Core.List.{List, [], _∷_}

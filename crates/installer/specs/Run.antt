@@ -1,4 +1,4 @@
--- Demand 3, "Done means landed": a begin, any list of calls after it, and what holds wherever such a list ends.
+-- "Done means landed" (specification, 11): a begin, any list of calls after it, and what holds wherever such a list ends.
 -- A power cut is such an end, since each call makes at most one operation of the flash, and that happens wholly or not at all.
 -- Nobody else writes the slot, and each call gets the record and the slot that the last one left.
 -- Assumes nothing.

@@ -1,9 +1,10 @@
 // The installer: begin, erase, fill, ask and close, over the one slot of flash.
 //
 // A session's record goes in by value and comes back. Any record may come in: one whose numbers no
-// session reaches is refused with 19. Each call makes at most one operation of the flash, so a power
-// cut always falls between two calls. The file's first word stays in the record until close stores
-// it as the last operation of all: until then the slot starts erased, and the boot check refuses it.
+// session reaches is refused with 19. Each call makes at most one operation of the flash. If that
+// happens wholly or not at all, a power cut has the effect of one between two calls. The file's first
+// word stays in the record until close stores it as the last operation of all: until then the slot
+// starts erased, and the boot check refuses it.
 pub mod theorems;
 
 use flash::erase_page;
@@ -125,7 +126,7 @@ fn words_stored(t: usize) -> usize
     if t < 4 { 0 } else { t / 4 - 1 }
 }
 
-// Whether the record is that of an open session on a slot of n bytes, and its numbers can be.
+// Whether the record is that of an open session, and consistent with a slot of n bytes.
 fn sound(s: Session, n: usize) -> bool
     ensures { λ r. ⌜ r ≡ sound s n ⌝ }
 {

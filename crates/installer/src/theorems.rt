@@ -1,4 +1,4 @@
-// Demand 3, as the promise of a function with an empty body.
+// "Done means landed" (specification, 11), as the promise of a function with an empty body.
 ghost use Rattle.installer.specs.Run.{DoneMeansLanded};
 
 // Done means landed.

@@ -3,7 +3,7 @@
 // power failed there and it started again: the boot check of the slot as it stands.
 //
 // The writers, the installer and the check are the proved libraries'. That nothing but the old image,
-// the refusal 1 and the new image can show is demand 3 (`installer`, `done_means_landed`). This
+// the refusal 1 and the new image can show is proved (`installer`, `done_means_landed`). This
 // program lets it be watched. An answer that the install does not expect is printed, and ends it.
 mod images;
 mod table;

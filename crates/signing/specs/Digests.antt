@@ -1,4 +1,4 @@
--- The two digest questions (01, "Firmware header"): the digest to be signed is BLAKE2s over the whole header with its last 65 bytes taken as zero.
+-- The two digests to be signed (specification, 5; asking for one is its "digest question"). Such a digest is BLAKE2s over the whole header with its last 65 bytes taken as zero.
 -- Assumes nothing.
 use Prim.Native.Nat.{ℕ, _+_}
 use mathlib.Core.List.{List, _∷_, _++_}

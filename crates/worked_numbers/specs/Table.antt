@@ -1,4 +1,4 @@
--- The paper's worked numbers (01, "Numbers on both sides", marked P), as one table: what a definition gives, and what the paper says.
+-- The worked numbers P1 to P12 (specification, 13), as one table: what a definition gives, and what the specification says.
 -- Assumes nothing.
 use Prim.Native.Nat.{ℕ, _+_, _-_, _*_}
 use mathlib.Core.Path.{_≡_}
@@ -13,7 +13,7 @@ use Rattle.header.specs.declared.Inputs.{Inputs}
 use Rattle.header.specs.declared.Outcome.{Outcome}
 use Rattle.header.specs.declared.Outcome.the-variants.{Pass, Refused}
 
--- a worked number: what a definition gives, and what the paper says
+-- a worked number: what a definition gives, and what the specification says
 infixl 20 _gives_
 pub data Worked : Type 0 where
   _gives_ : ℕ → ℕ → Worked

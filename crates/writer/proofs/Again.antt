@@ -204,7 +204,7 @@ module _ (b : List ℕ) (bytes : (i : ℕ) → getD b i 0 < 256) (magic : starts
       between-both : (x : ℕ) → x + 1024 - (x + 960) ≡ 64
       between-both x = omega arith
 
--- demand 2, second half
+-- the second half of the agreement
 pub rewritten-images-are-the-same : RewrittenImagesAreTheSame
 unfolding vendorMagicMissing partsOf
 rewritten-images-are-the-same b bytes given i h =

@@ -173,7 +173,7 @@ module _ (p : Parts) (given : Inputs) (w : WellFormed p given) (yesVendor : give
       (stage-passes _ _ (sym vendor-policy-passes) refl
       (stage-passes _ _ (sym (firmware-shape-passes p (w .sized) (w .taken))) refl (sym firmware-policy-passes))))))
 
--- demand 2, first half
+-- the first half of the agreement
 pub written-images-pass : WrittenImagesPass
 written-images-pass p given w yesVendor yesFirmware =
     let s = w .sized in

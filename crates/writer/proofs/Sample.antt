@@ -1,4 +1,4 @@
--- Some parts are well-formed, so demand 2 speaks of something: every test of this sample computes.
+-- Some parts are well-formed, so the theorems speak of something: every test of this sample computes.
 -- Assumes nothing.
 use mathlib.Core.Path.{refl}
 use mathlib.Core.List.{[], _∷_}

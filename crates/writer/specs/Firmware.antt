@@ -1,4 +1,4 @@
--- The firmware header as its fields one behind the other, and when its writer refuses (01, "The writers").
+-- The firmware header as its fields one behind the other, and when its writer refuses (specification, 3 and 8.2).
 -- Assumes nothing.
 use Prim.Native.Nat.{ℕ}
 use mathlib.Core.List.{List, [], _∷_, _++_}

@@ -54,7 +54,7 @@ pub record Taken (p : Parts) : Type 0 where
   pub vendorTaken : firstFailing (vendorRefusals (p .vendor) (length (p .keys)) (length (p .string)) (length (p .picture)) (sizeOf p)) ≡ Pass
   pub firmwareTaken : firstFailing (firmwareRefusals (sizeOf p) (length (p .code)) 1024) ≡ Pass
 
--- well-formed (01, "The writers"): the writers take the parts, and S2, S9, S10, S18 and S19 hold of the chosen values
+-- well-formed (specification, 8.3): the writers take the parts, and S2, S9, S10, S18 and S19 hold of the chosen values
 pub record WellFormed (p : Parts) (given : Inputs) : Type 0 where
   pub sized : Sized p
   pub taken : Taken p
@@ -69,7 +69,7 @@ pub record WellFormed (p : Parts) (given : Inputs) : Type 0 where
   -- S19
   pub firmwareSigned : maskWrong (p .vendor .m) (p .vendor .n) (p .firmware .mask) ≡ false
 
--- an image taken apart by the views and field readings. The whole picture area goes back
+-- an image taken apart: the fields of both headers, the string, the picture area and the code. The whole picture area goes back
 unfoldable pub partsOf : List ℕ → Parts
 partsOf b =
     record {

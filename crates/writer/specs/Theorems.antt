@@ -1,4 +1,4 @@
--- Demand 2: the writers and the check agree.
+-- The writers and the check agree (specification, 8.3).
 -- Assumes nothing.
 use Prim.Native.Nat.{ℕ, _<_}
 use mathlib.Core.Path.{_≡_}

@@ -8,7 +8,7 @@ use Rattle.header.specs.declared.Outcome.the-variants.{Pass, Refused}
 use Rattle.writer.specs.declared.Written.{Written}
 use Rattle.writer.specs.declared.Written.the-variants.{Header, Not}
 
--- the paper's number of every answer, and the length that a success tells
+-- the number of every answer (specification, 14), and the length that a success tells
 abbrev pub numberOf : Written → ℕ
 numberOf (Header len) = 0
 numberOf (Not number) = number

@@ -1,4 +1,4 @@
-// Demand 2: the writers and the check agree. Each theorem is the promise of a function with an empty
+// The writers and the check agree (specification, 8.3). Each theorem is the promise of a function with an empty
 // body.
 ghost use Rattle.writer.specs.Theorems.{WrittenImagesPass, RewrittenImagesAreTheSame, WrittenImagesAnswer};
 
