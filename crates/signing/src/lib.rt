@@ -1,5 +1,5 @@
-// The two digest questions: the digest to be signed of the vendor header, and of the firmware
-// header.
+// What is signed (specification, 5): the digest to be signed of the vendor header, and of the firmware
+// header. Asking for one is a digest question.
 //
 // A question asks for the shape of the headers alone. It looks at no time, no policy, no signer, no
 // verdict and no code. Where the shape is wrong, the first failing step's refusal comes back and no
@@ -24,7 +24,7 @@ ghost use Rattle.blake2s.specs.Parts.{zeroTailed};
 ghost use Rattle.octets.specs.Read.{between};
 ghost use Rattle.header.specs.Layout.{vendorLen, maskAt};
 ghost use Rattle.header.specs.Table.{firstFailing};
-ghost use Rattle.signing.specs.Digests.{vendorRows, firmwareRows, signedVendor, signedFirmware, vendorDigest, firmwareDigest};
+ghost use Rattle.signing.specs.Digests.{vendorRows, firmwareRows, signedVendor, signedFirmware, answered, vendorDigest, firmwareDigest};
 
 // Pass and the digest, or the refusal and zeros.
 pub struct Digest {
@@ -90,11 +90,11 @@ pub fn vendor_digest(b: &[u8]) -> Digest
     }
 }
 
-// The digest to be signed of the firmware header.
-pub fn firmware_digest(b: &[u8]) -> Digest
-    ensures { λ r. ⌜ r ≡ firmwareDigest (now (b .entry)) ⌝ }
+// The firmware header's, where S1 fails as told. Nothing else of it reads the first word.
+fn firmware_answer(magic_missing: bool, b: &[u8]) -> Digest
+    ensures { λ r. ⌜ r ≡ answered (firstFailing (firmwareRows «magic_missing» (now (b .entry)))) (blake2sOf (signedFirmware (now (b .entry)))) ⌝ }
 {
-    let outcome = firmware_rows(vendor_magic_missing(b), b);
+    let outcome = firmware_rows(magic_missing, b);
     match outcome {
         Outcome::Refused(_) => Digest {
             outcome,
@@ -105,6 +105,13 @@ pub fn firmware_digest(b: &[u8]) -> Digest
             Digest { outcome, digest }
         }
     }
+}
+
+// The digest to be signed of the firmware header.
+pub fn firmware_digest(b: &[u8]) -> Digest
+    ensures { λ r. ⌜ r ≡ firmwareDigest (now (b .entry)) ⌝ }
+{
+    firmware_answer(vendor_magic_missing(b), b)
 }
 
 // The vendor header's, where the first word is given apart: of first, and then the bytes from 4 on.
@@ -128,15 +135,5 @@ pub fn vendor_digest_word_apart(first: [u8; 4], b: &[u8]) -> Digest
 pub fn firmware_digest_word_apart(first: [u8; 4], b: &[u8]) -> Digest
     ensures { λ r. ⌜ r ≡ firmwareDigest (first ++ drop 4 (now (b .entry))) ⌝ }
 {
-    let outcome = firmware_rows(!starts_with(&first, b"TRZV"), b);
-    match outcome {
-        Outcome::Refused(_) => Digest {
-            outcome,
-            digest: [0; 32],
-        },
-        Outcome::Pass => {
-            let digest = firmware_header_digest(b);
-            Digest { outcome, digest }
-        }
-    }
+    firmware_answer(!starts_with(&first, b"TRZV"), b)
 }

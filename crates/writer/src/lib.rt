@@ -137,6 +137,15 @@ fn vendor_back(
     put_bytes(out, c, sig)
 }
 
+// The length of a vendor header whose picture starts at an offset and has so many bytes: the least
+// multiple of 512 that holds both and the 65 bytes behind them.
+fn size_of(start: usize, picture: usize) -> usize
+    requires { ⌜ (start ≤ 65536) × (picture ≤ 65536) ⌝ }
+    ensures { λ r. ⌜ r ≡ roundUp 512 (start + picture + 65) ⌝ }
+{
+    (start + picture + 65 + (512 - 1)) / 512 * 512
+}
+
 // Whether a vendor header would be longer than 65,536 bytes. The picture may have any length.
 fn too_long(start: usize, picture: usize) -> bool
     requires { ⌜ start ≤ 65536 ⌝ }
@@ -145,7 +154,7 @@ fn too_long(start: usize, picture: usize) -> bool
     if 65536 < picture {
         return true;
     }
-    65536 < (start + picture + 65 + (512 - 1)) / 512 * 512
+    65536 < size_of(start, picture)
 }
 
 // Why the vendor writer refuses, by the lengths of the keys, the string, the picture and the output.
@@ -163,7 +172,7 @@ fn vendor_refusals(f: Vendor, keys: usize, string: usize, picture: usize, room: 
     if too_long(start, picture) {
         return refuse(3, 0);
     }
-    if room < (start + picture + 65 + (512 - 1)) / 512 * 512 {
+    if room < size_of(start, picture) {
         return refuse(21, 0);
     }
     Outcome::Pass
@@ -189,7 +198,7 @@ pub fn write_vendor(
     }
     let n = f.n;
     let start = picture_start(n, string.len() as u8);
-    let v = (start + picture.len() + 65 + (512 - 1)) / 512 * 512;
+    let v = size_of(start, picture.len());
     let at = vendor_front(out, v, f, keys, string);
     vendor_back(out, v, at, picture, f.mask, sig);
     Written::Header(v)

@@ -1,8 +1,6 @@
--- `signing::firmware_digest` meets its contract: the rows are asked with S1's own answer, and the digest is made where they pass.
+-- S1 is asked of the bytes.
 use borrow.Author.Needs.{needs}
-use mathlib.Core.Path.{refl}
-use Rattle.signing.specs.Digests.{firmwareRows, firmwareDigest}
-use Rattle.signing.proofs.Laws.{answers}
+use Rattle.signing.specs.Digests.{firmwareDigest}
 use Rattle.signing.proofs.firmware_digest.Statement.{statement}
 use Rattle.signing.proofs.firmware_digest.Tie as tie
 
@@ -13,8 +11,4 @@ firmware-digest-spec =
     (tie.spec
     (λ c κs. search needs)
     (λ c κs. search needs)
-    (λ c. search needs)
-    (λ c. search needs)
-    (λ c κs. search needs)
-    (λ c. answers firmwareRows _ _ (c .before .before .before .vendor-magic-missing .ensures) (c .before .before .firmware-rows .ensures) (c .enum-told .given .1) refl)
-    (λ c. answers firmwareRows _ _ (c .before .before .before .before .vendor-magic-missing .ensures) (c .before .before .before .firmware-rows .ensures) (c .before .enum-told2 .given .1) (rw (c .firmware-header-digest .ensures))))
+    (λ c. rw (← c .before .vendor-magic-missing .ensures) (c .firmware-answer .ensures)))

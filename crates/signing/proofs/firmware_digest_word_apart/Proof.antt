@@ -1,10 +1,8 @@
--- `signing::firmware_digest_word_apart` meets its contract: S1 is asked of the word, and the other rows and the digest are the same with the word in its place.
+-- S1 is asked of the word, and the other rows and the digest are the same with the word in its place.
 use borrow.Author.Needs.{needs}
 use denote.Ref.{now}
-use mathlib.Core.Bool.{not}
-use mathlib.Core.Path.{refl, sym, ap, _∙_}
-use Rattle.signing.specs.Digests.{firmwareRows}
-use Rattle.signing.proofs.Laws.{answers, firmware-apart}
+use mathlib.Core.Path.{sym, _∙_}
+use Rattle.signing.proofs.Laws.{firmware-apart}
 use Rattle.signing.proofs.firmware_digest_word_apart.Statement.{statement}
 use Rattle.signing.proofs.firmware_digest_word_apart.Tie as tie
 
@@ -16,16 +14,7 @@ firmware-digest-word-apart-spec =
     (λ c. search needs)
     (λ c κs. search needs)
     (λ c κs. search needs)
-    (λ c. search needs)
-    (λ c. search needs)
-    (λ c κs. search needs)
     (λ c.
-    let r = c .before .before in
-    let a = r .before .before .before .before .before .args in
-    answers firmwareRows _ _ (ap not (r .before .starts-with .ensures)) (r .firmware-rows .ensures) (c .enum-told .given .1) refl
-    ∙ sym (firmware-apart (a .t1) (now (a .b)) (search needs)))
-    (λ c.
-    let r = c .before .before .before in
-    let a = r .before .before .before .before .before .args in
-    answers firmwareRows _ _ (ap not (r .before .starts-with .ensures)) (r .firmware-rows .ensures) (c .before .enum-told2 .given .1) (rw (c .firmware-header-digest .ensures))
+    let a = c .before .before .before .before .before .args in
+    (rw (c .before .starts-with .ensures) at (c .firmware-answer .ensures))
     ∙ sym (firmware-apart (a .t1) (now (a .b)) (search needs))))

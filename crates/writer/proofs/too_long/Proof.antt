@@ -1,7 +1,8 @@
--- A picture above the limit makes the header too long, and below it the sum is small enough to be made.
+-- A picture above the limit makes the header too long, and below it the size can be computed.
 use native.Mathlib.Omega.{arith}
-use mathlib.Core.Path.{sym}
+use mathlib.Core.Path.{sym, ap}
 use Prim.Native.Nat.{_+_}
+use lib.Dec.{ltb}
 use borrow.Author.Needs.{needs}
 use borrow.Author.Tests.{lt-ltb}
 use Rattle.octets.specs.Rounding.{roundUp}
@@ -13,9 +14,5 @@ too-long-spec =
     tie.close
     (tie.spec
     (λ c. let a = c .before .args in sym (lt-ltb 65536 (roundUp 512 (a .start + a .picture + 65)) (omega arith)))
-    (λ c. search needs)
-    (λ c. search needs)
-    (λ c. search needs)
-    (λ c. search needs)
-    (λ c. search needs)
-    (λ c. search needs))
+    (λ c κs. (search needs, search needs))
+    (λ c. ap (ltb 65536) (c .size-of .ensures)))

@@ -43,7 +43,8 @@ returns-3 c =
 returns-4 : tie.Need-returns-4
 unfolding vendorRefusals
 returns-4 c =
-    let e3 = c .before .before in
+    let q = c .before .before in
+    let e3 = q .before in
     let t = e3 .before in
     let p = t .before in
     let e2 = p .before in
@@ -52,12 +53,13 @@ returns-4 c =
     passes _ _ (e1 .before .keys-impossible .ensures) (e1 .if1 .left)
     (passes-here _ _ (e2 .if2 .left)
     (passes _ _ (too-long-is (a .f .n) (a .string) (a .picture) (p .picture-start .ensures) (t .too-long .ensures)) (e3 .if3 .left)
-    (fails-here _ _ (rw (← p .picture-start .ensures) (lt-ltb (a .room) (roundUp 512 (p .picture-start .result + a .picture + 65)) (c .before .if4 .taken))) (c .refuse4 .ensures))))
+    (fails-here _ _ (rw (← p .picture-start .ensures, ← q .size-of .ensures) (lt-ltb (a .room) (q .size-of .result) (c .before .if4 .taken))) (c .refuse4 .ensures))))
 
 returns-5 : tie.Need-returns-5
 unfolding vendorRefusals
 returns-5 c =
-    let e3 = c .before in
+    let q = c .before in
+    let e3 = q .before in
     let t = e3 .before in
     let p = t .before in
     let e2 = p .before in
@@ -66,7 +68,7 @@ returns-5 c =
     passes _ _ (e1 .before .keys-impossible .ensures) (e1 .if1 .left)
     (passes-here _ _ (e2 .if2 .left)
     (passes _ _ (too-long-is (a .f .n) (a .string) (a .picture) (p .picture-start .ensures) (t .too-long .ensures)) (e3 .if3 .left)
-    (passes-here _ _ (rw (← p .picture-start .ensures) (le-ltb (a .room) (roundUp 512 (p .picture-start .result + a .picture + 65)) (c .if4 .left))) ends)))
+    (passes-here _ _ (rw (← p .picture-start .ensures, ← q .size-of .ensures) (le-ltb (a .room) (q .size-of .result) (c .if4 .left))) ends)))
 
 pub vendor-refusals-spec : {M : Type 1} → statement M
 unfolding vendorRefusals
@@ -89,11 +91,7 @@ vendor-refusals-spec =
     too-long-requires
     (λ c κs. search needs)
     returns-3
-    (λ c. omega (arith, short c))
-    (λ c. omega (arith, short c))
-    (λ c. search needs)
-    (λ c. omega (arith, short c))
-    (λ c. omega (arith, short c))
+    (λ c κs. (omega (arith, short c), omega (arith, short c)))
     (λ c κs. search needs)
     returns-4
     returns-5)

@@ -20,36 +20,35 @@ start e = e .before .before .before .before .before .before .before
 abbrev ready : (e : tie.After-enum-told) → VendorFits (start e .args .f) (length (now (start e .args .keys))) (length (now (start e .args .string))) (length (now (start e .args .picture))) (length (now (start e .args .out)))
 ready e = vendor-fits _ _ _ _ _ (sym (e .before .before .vendor-refusals .ensures) ∙ e .enum-told .given .1)
 
--- the header's length as the code computes it
-abbrev size : tie.After-picture-start → ℕ
-size p = roundUp 512 (p .picture-start .result + length (now (start (p .before) .args .picture)) + 65)
-
 vendor-front-requires : tie.Need-vendor-front-requires
 vendor-front-requires c κs =
-    let p = c .before in
+    let z = c .before in
+    let p = z .before in
     let r = ready (p .before) in
-    (omega (arith, p .picture-start .ensures), r .keys, r .string, omega (arith, p .picture-start .ensures))
+    (omega (arith, p .picture-start .ensures), r .keys, r .string, omega (arith, p .picture-start .ensures, z .size-of .ensures))
 
 vendor-back-requires : tie.Need-vendor-back-requires
 vendor-back-requires c κs =
     let k = c .before .before .before .before in
-    let p = k .before .before in
+    let z = k .before .before in
+    let p = z .before in
     let r = ready (p .before) in
     let a = start (p .before) .args in
-    let l = length-front (size p) (a .f) (now (a .keys)) (now (a .string)) (r .keys) in
-    (omega (arith, p .picture-start .ensures), omega (arith, p .picture-start .ensures, k .vendor-front .ensures .place), search needs)
+    let l = length-front (z .size-of .result) (a .f) (now (a .keys)) (now (a .string)) (r .keys) in
+    (omega (arith, p .picture-start .ensures, z .size-of .ensures), omega (arith, p .picture-start .ensures, z .size-of .ensures, k .vendor-front .ensures .place), search needs)
 
 returns-2 : tie.Need-returns-2
 unfolding vendorFields
 returns-2 c =
     let q = c .before .before in
     let k = q .before .before .before .before .before in
-    let p = k .before .before in
+    let z = k .before .before in
+    let p = z .before in
     let e = p .before in
     let a = start e .args in
-    let v : size p ≡ vendorSize (a .f .n) (length (now (a .string))) (length (now (a .picture))) =
-    ap (λ (x : ℕ). roundUp 512 (x + length (now (a .picture)) + 65)) (p .picture-start .ensures) in
-    let l = length-front (size p) (a .f) (now (a .keys)) (now (a .string)) (ready e .keys) in
+    let v : z .size-of .result ≡ vendorSize (a .f .n) (length (now (a .string))) (length (now (a .picture))) =
+    z .size-of .ensures ∙ ap (λ (x : ℕ). roundUp 512 (x + length (now (a .picture)) + 65)) (p .picture-start .ensures) in
+    let l = length-front (z .size-of .result) (a .f) (now (a .keys)) (now (a .string)) (ready e .keys) in
     let s : k .vendor-front .result ≡ pictureStart (a .f .n) (length (now (a .string))) = omega (arith, k .vendor-front .ensures .place) in
     wrote (e .before .before .vendor-refusals .ensures) (e .enum-told .given .1) v (rw (s, v) at (next (k .vendor-front .ensures) (q .vendor-back .ensures)))
 
@@ -63,11 +62,7 @@ write-vendor-spec =
     (λ c. search needs)
     (λ c. omega (arith, ready c))
     (λ c κs. search needs)
-    (λ c. omega (arith, ready (c .before), c .picture-start .ensures))
-    (λ c. omega (arith, ready (c .before), c .picture-start .ensures))
-    (λ c. search needs)
-    (λ c. omega (arith, ready (c .before), c .picture-start .ensures))
-    (λ c. omega (arith, ready (c .before), c .picture-start .ensures))
+    (λ c κs. (omega (arith, ready (c .before), c .picture-start .ensures), omega (arith, ready (c .before), c .picture-start .ensures)))
     vendor-front-requires
     vendor-back-requires
     (λ c. search needs)
