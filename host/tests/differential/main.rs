@@ -20,7 +20,7 @@ mod checks;
 mod damage;
 mod from_c;
 mod installs;
-mod questions;
 mod records;
+mod signing;
 mod wrapper;
 mod writers;
