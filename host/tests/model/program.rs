@@ -1,4 +1,4 @@
-//! The inspecting program of 01: what it writes for what stands on its standard input.
+//! The inspecting program (specification, 12): what it writes for what stands on its standard input.
 
 use super::image::{check, Form, Inputs};
 
