@@ -14,6 +14,7 @@ mod faults;
 mod landed;
 mod moment;
 mod tally;
+mod written;
 
 mod calls;
 mod checks;
