@@ -2,8 +2,8 @@
  * The interface of libthimmorel.a, for C99 and C++. This file documents each call in full.
  *
  * Each call is proved equal to a definition, in crates/thimmorel/specs and in the specs of the
- * crates below it. The comments here retell these definitions; no tool compares the two.
- * docs/PROMISES.md lists the statements that are proved, and docs/TRUST.md what they assume.
+ * crates below it. The comments here retell these definitions, and nothing checks that they do.
+ * docs/PROMISES.md lists the statements that are proved, and docs/TRUST.md what is assumed.
  */
 
 #ifndef THIMMOREL_H
@@ -45,7 +45,8 @@ extern "C" {
  *
  *  - A slice of length 0 may have any pointer, including `NULL`. Nothing is read through it.
  *
- *  - An array of fixed size is passed as a pointer to its first element, which must not be `NULL`.
+ *  - An array of fixed size is passed as a pointer to its first element. The pointer must not be
+ *    `NULL`.
  *
  *  - Bytes need no alignment. Arrays of `uint32_t` and `size_t` are aligned as C requires.
  *
@@ -211,7 +212,7 @@ void thimmorel_digest(const uint8_t *bytes, size_t length, uint8_t digest[32]);
  * | S21 | the bytes end before the code does | 2 | 3 |
  * | S22 | bytes follow the code | 13 | 3 |
  * | S23 | the lowest chunk with a wrong hash holds code | 14 | 3 |
- * | S23 | it holds no code, and its hash is not all zero | 15 | 3 |
+ * | S23 | that chunk holds no code, and its hash is not all zero | 15 | 3 |
  *
  * The bytes are not changed.
  *
@@ -245,7 +246,8 @@ uint32_t thimmorel_check_slot(const uint8_t *bytes, size_t length, uint32_t time
  *
  * The call follows a check of the same bytes and takes its number. After a refusal all six words
  * are 0. After an acceptance they are the start and the length of the string, of the picture area
- * and of the code. A start counts from the first byte. The picture area runs up to the sigmask.
+ * and of the code. A start is an offset from the first byte. The picture area runs up to the
+ * sigmask.
  *
  * After a refusal, pass its number and not 0: such bytes have no parts. Whatever is passed, no part
  * reaches past the end of the bytes.
@@ -259,7 +261,7 @@ uint32_t thimmorel_check_slot(const uint8_t *bytes, size_t length, uint32_t time
 void thimmorel_parts(const uint8_t *bytes, size_t length, uint32_t number, size_t parts[6]);
 
 /**
- * \brief Compute the digest of the vendor header that its signature signs.
+ * \brief Compute the digest that the vendor header's signature signs.
  *
  * It is the digest of all v bytes of the header, with the last 65 (sigmask and sig) taken as zero.
  * The header must pass S1 and S3 to S8 of thimmorel_check_file(). The first that fails gives the
@@ -268,7 +270,7 @@ void thimmorel_parts(const uint8_t *bytes, size_t length, uint32_t number, size_
  *
  * \param bytes    the image, or its start.
  * \param length   the number of bytes.
- * \param where    always written: the part and the chunk of a refusal, or 0 and 0. The chunk is 0.
+ * \param where    always written: the part of a refusal, or 0; then 0, for there is no chunk.
  * \param digest   written only on success: the 32 bytes of the digest.
  * \return 0, or the number of the step that fails.
  */
@@ -276,15 +278,15 @@ uint32_t thimmorel_vendor_digest(const uint8_t *bytes, size_t length, uint32_t w
 	uint8_t digest[32]);
 
 /**
- * \brief Compute the digest of the firmware header that its signature signs.
+ * \brief Compute the digest that the firmware header's signature signs.
  *
  * It is the digest of the 1,024 bytes of the header, with the last 65 taken as zero. Both headers
- * count: S1, S3 to S8 and then S12 to S17 must hold. The first that fails gives the answer, as in
- * thimmorel_vendor_digest() or, with part 2, 2, 10, 11, 17, 12 or 6. The code need not be there.
+ * count: S1, S3 to S8 and then S12 to S17 must hold. The first that fails gives the answer: one of
+ * thimmorel_vendor_digest(), or 2, 10, 11, 17, 12 or 6 with part 2. The code need not be present.
  *
  * \param bytes    the image, or its start.
  * \param length   the number of bytes.
- * \param where    always written: the part and the chunk of a refusal, or 0 and 0. The chunk is 0.
+ * \param where    always written: the part of a refusal, or 0; then 0, for there is no chunk.
  * \param digest   written only on success: the 32 bytes of the digest.
  * \return 0, or the number of the step that fails.
  */
@@ -295,9 +297,9 @@ uint32_t thimmorel_firmware_digest(const uint8_t *bytes, size_t length, uint32_t
  * \brief Read how far the vendor is trusted.
  *
  * A feature is active if its bit of vtrust is unset. Bits 0 to 3 add 1, 2, 4 and 8 seconds of
- * waiting; bit 4 is a red background, bit 5 that a click is needed, bit 6 that the string is shown,
- * bit 7 that the pairing secret is allowed. Bits 8 to 15 have no meaning. The call is meant for
- * bytes that a check accepted. It cannot fail: a byte of vtrust past the end counts as 0.
+ * waiting; bit 4 gives a red background, bit 5 asks for a click, bit 6 shows the string, and bit 7
+ * allows the pairing secret. Bits 8 to 15 have no meaning. The call is meant for bytes that a check
+ * accepted. It cannot fail: a byte of vtrust past the end counts as 0.
  *
  * \param bytes    the image, or its start.
  * \param length   the number of bytes.
@@ -485,11 +487,11 @@ uint32_t thimmorel_fill(uint32_t record[16], const uint8_t *piece, size_t piece_
  * \brief Compute the two digests that the signatures of the new file sign.
  *
  * The call answers as thimmorel_vendor_digest() and thimmorel_firmware_digest() do for the file:
- * the slot's first bytes, as many as the file has, with the first word from the record. The chip
- * can then give the verdicts for thimmorel_close(). Record and slot are not changed.
+ * the slot's bytes up to the file's length, with the first word from the record. The chip can then
+ * give the verdicts for thimmorel_close(). Record and slot are not changed.
  *
- * Refusal: 19, also until all bytes of the file are taken. If a digest is refused, `answers` tells
- * it, and the call still returns 0.
+ * Refusal: 19, also until all bytes of the file are taken. If a digest is refused, `answers` says
+ * so, and the call still returns 0.
  *
  * \param record        the session.
  * \param slot          the slot.
@@ -506,10 +508,10 @@ uint32_t thimmorel_ask(const uint32_t record[16], const uint8_t *slot, size_t sl
 /**
  * \brief Check the new file and, if it is accepted, finish the install.
  *
- * The check is thimmorel_check_file() of the file: the slot's first bytes, as many as the file has,
- * with the first word from the record. If it accepts, the first word is stored, the session is
- * over, and the answer is 0, Done: thimmorel_check_slot() with the same time, policy and verdicts
- * then accepts the slot. Refusals, in order:
+ * The check is thimmorel_check_file() of the file: the slot's bytes up to the file's length, with
+ * the first word from the record. If it accepts, the first word is stored, the session is over, and
+ * the answer is 0, Done: thimmorel_check_slot() with the same time, policy and verdicts then
+ * accepts the slot. Refusals, in order:
  *
  *  - 19, also until all bytes of the file are taken. The session is unchanged;
  *

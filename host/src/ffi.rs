@@ -35,7 +35,7 @@ extern "C" {
     /// Tells where the parts of a checked image are.
     pub fn thimmorel_parts(bytes: *const u8, length: usize, number: u32, parts: *mut [usize; 6]);
 
-    /// Computes the digest of the vendor header that its signature signs.
+    /// Computes the digest that the vendor header's signature signs.
     pub fn thimmorel_vendor_digest(
         bytes: *const u8,
         length: usize,
@@ -43,7 +43,7 @@ extern "C" {
         digest: *mut [u8; 32],
     ) -> u32;
 
-    /// Computes the digest of the firmware header that its signature signs.
+    /// Computes the digest that the firmware header's signature signs.
     pub fn thimmorel_firmware_digest(
         bytes: *const u8,
         length: usize,

@@ -5,7 +5,7 @@ use crate::refusal::Refusal;
 
 type Question = unsafe extern "C" fn(*const u8, usize, *mut [u32; 2], *mut [u8; 32]) -> u32;
 
-/// The digest of the vendor header that its signature signs.
+/// The digest that the vendor header's signature signs.
 ///
 /// The header must pass S1 and S3 to S8 of the check. No time, policy or verdict matters, and
 /// nothing after the header is looked at.
@@ -27,9 +27,10 @@ pub fn vendor_digest(bytes: &[u8]) -> Result<[u8; 32], Refusal> {
     ask(ffi::thimmorel_vendor_digest, bytes)
 }
 
-/// The digest of the firmware header that its signature signs.
+/// The digest that the firmware header's signature signs.
 ///
-/// Both headers count: S1, S3 to S8 and S12 to S17 must hold. The code need not be there.
+/// Both headers count: S1, S3 to S8 and S12 to S17 must hold. The code need not be
+/// present.
 pub fn firmware_digest(bytes: &[u8]) -> Result<[u8; 32], Refusal> {
     ask(ffi::thimmorel_firmware_digest, bytes)
 }

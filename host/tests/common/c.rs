@@ -10,8 +10,8 @@ const TMP: &str = env!("CARGO_TARGET_TMPDIR");
 
 const WARNINGS: [&str; 4] = ["-Wall", "-Wextra", "-Wpedantic", "-Werror"];
 
-/// Builds and runs `tests/c/NAME.c` as C99 and as C++. Without g++ the C++ run is skipped, except in
-/// the gate, which sets `THIMMOREL_GATE=1`: there it fails.
+/// Builds and runs `tests/c/NAME.c` as C99 and as C++. Without g++ the C++ run is skipped, but with
+/// `THIMMOREL_GATE=1`, which the gate sets, it fails.
 pub fn run_as_c_and_cpp(name: &str) {
     run(&build(name, "gcc", &["-std=c99"]));
     if is_there("g++") || in_the_gate() {
@@ -31,7 +31,7 @@ fn in_the_gate() -> bool {
     std::env::var("THIMMOREL_GATE").as_deref() == Ok("1")
 }
 
-/// Writes a line that cargo shows. It keeps what `println` and `eprintln` write in a test that passes.
+/// Writes a line that cargo shows. It hides what `eprintln` writes in a test that passes.
 fn say(line: &str) {
     writeln!(io::stderr(), "{line}").expect("standard error is open");
 }

@@ -114,7 +114,7 @@ impl Both {
         BEFORE..BEFORE + self.lent
     }
 
-    /// A record that the model leaves as it was stays as it was. The reserved words stay, or become 0.
+    /// A record that the model leaves as it was stays as it was. The reserved words stay or become 0.
     fn compare(&self, words_before: &Words, record_before: &Record) {
         assert!(self.memory == self.expected, "the slots differ");
         assert_same(&record_of(&self.words), &self.record);
