@@ -21,8 +21,8 @@
 //! - Done tells nothing else.
 //!
 //! Two more such points are not modelled, and are tested in `differential`: `where` is always
-//! written and is 0 on success (archive/mod.rs), and the reserved words of a record are not read
-//! (both.rs).
+//! written and is 0 on success (archive/mod.rs), and the reserved words of a record are not read,
+//! and are 0 once a call has written the record (both.rs).
 
 // Each test takes the models that it needs.
 #![allow(dead_code)]
