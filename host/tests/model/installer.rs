@@ -181,7 +181,7 @@ fn alone(number: u32) -> Refusal {
     }
 }
 
-/// Close: Done, or a refusal. Only a refusal by the check ends the session.
+/// Close: Done, or a refusal. Of the refusals only the check's ends the session.
 pub fn close(record: &mut Record, slot: &mut [u8], inputs: &Inputs) -> Result<(), Refusal> {
     record.expect(slot, Record::full).map_err(alone)?;
     expect_erased(slot, 0).map_err(alone)?;
