@@ -7,7 +7,7 @@ use crate::refusal::Refusal;
 /// What a check takes besides the bytes.
 #[derive(Clone, Copy, Debug, PartialEq, Eq)]
 pub struct Inputs {
-    /// The time now, on the scale of the headers' expiries.
+    /// The current time, on the same scale as the headers' expiries.
     pub time: u32,
     /// How many keys must have signed the vendor header.
     pub m: u32,
@@ -58,7 +58,7 @@ pub fn check_file(bytes: &[u8], inputs: Inputs) -> Result<Image<'_>, Refusal> {
     check(ffi::thimmorel_check_file, bytes, inputs)
 }
 
-/// Checks an image that stands in a slot: the bytes after the code must be erased, which is 255.
+/// Checks an image that is in a slot: the bytes after the code must be erased, which is 255.
 /// This is the check to make before the firmware is started.
 ///
 /// ```

@@ -19,7 +19,7 @@ extern "C" {
         image: *mut [u32; 4],
     ) -> u32;
 
-    /// Checks an image that stands in a slot.
+    /// Checks an image that is in a slot.
     pub fn thimmorel_check_slot(
         bytes: *const u8,
         length: usize,
@@ -32,10 +32,10 @@ extern "C" {
         image: *mut [u32; 4],
     ) -> u32;
 
-    /// Tells where the parts of a checked image stand.
+    /// Tells where the parts of a checked image are.
     pub fn thimmorel_parts(bytes: *const u8, length: usize, number: u32, parts: *mut [usize; 6]);
 
-    /// Computes the digest of the vendor header that its signature is over.
+    /// Computes the digest that the vendor header's signature signs.
     pub fn thimmorel_vendor_digest(
         bytes: *const u8,
         length: usize,
@@ -43,7 +43,7 @@ extern "C" {
         digest: *mut [u8; 32],
     ) -> u32;
 
-    /// Computes the digest of the firmware header that its signature is over.
+    /// Computes the digest that the firmware header's signature signs.
     pub fn thimmorel_firmware_digest(
         bytes: *const u8,
         length: usize,
@@ -111,7 +111,7 @@ extern "C" {
         taken: *mut [u32; 1],
     ) -> u32;
 
-    /// Computes the two digests that the signatures of the new file are over.
+    /// Computes the two digests that the signatures of the new file sign.
     pub fn thimmorel_ask(
         record: *const [u32; 16],
         slot: *const u8,

@@ -6,17 +6,17 @@
 mod check;
 pub mod ffi;
 mod image;
-mod questions;
 mod refusal;
 mod session;
+mod signing;
 mod trust;
 mod writer;
 
 pub use check::{check_file, check_slot, Inputs};
 pub use image::{Image, Version};
-pub use questions::{firmware_digest, vendor_digest};
 pub use refusal::Refusal;
 pub use session::{Digests, Session};
+pub use signing::{firmware_digest, vendor_digest};
 pub use trust::Trust;
 pub use writer::{write_firmware, write_vendor, FirmwareHeader, VendorHeader};
 

@@ -1,5 +1,5 @@
 //! Why a call refused: the number, and for the checks the part of the image and the chunk.
-//! The sentences are those of `include/thimmorel.h`.
+//! The sentences are those of `include/thimmorel.h`, and tests/header.rs compares them.
 
 use core::error::Error;
 use core::fmt;
@@ -19,7 +19,7 @@ pub struct Refusal {
     pub number: u32,
     /// The part of the image: 1 vendor header, 2 firmware header, 3 code, 0 otherwise.
     pub part: u32,
-    /// The chunk, from 1 to 16, at the numbers 14 and 15. It is 0 otherwise.
+    /// The chunk, from 1 to 16, with the numbers 14 and 15. It is 0 otherwise.
     pub chunk: u32,
 }
 
@@ -49,31 +49,34 @@ impl Refusal {
     fn sentence(&self) -> &'static str {
         match self.number {
             1 => "the bytes do not start with TRZV",
-            2 => "the bytes end before the part does",
-            3 => "the length of the vendor header is no multiple of 512 from 512 to 65,536",
-            4 => "the vendor header's m of n keys are not 1 <= m <= n <= 8",
+            2 => "the bytes end before this part of the image does",
+            3 => "the length of the vendor header is not a multiple of 512 from 512 to 65,536",
+            4 => "the vendor header's key numbers are not 1 <= vsig_m <= vsig_n <= 8",
             5 => "the vendor string leaves no room for the signature",
             6 => "a byte of the header that must be zero is not",
-            7 => "the time is above the header's expiry",
-            8 => "the sigmask names a key that there is not, or too few keys",
+            7 => "the time is later than the header's expiry",
+            8 => "the sigmask names a key index of n or above, or fewer than m keys",
             9 => "the verdict on the header's signature is no",
             10 => "the firmware header does not start with TRZF",
             11 => "the firmware header does not give its length as 1,024",
-            12 => "the code length is 0, no multiple of 4, or more than an image holds",
-            13 => "bytes follow the code: any at all in a file, one that is not 255 in a slot",
+            12 => "the code length is 0, not a multiple of 4, or more than an image holds",
+            13 => "bytes follow the code: any byte in a file, a byte other than 255 in a slot",
             14 => "the code in a chunk does not have the digest that the firmware header gives",
             15 => "the hash of a chunk without code is not all zero",
-            16 => "the caller's policy of m of n keys is not 1 <= m <= n <= 8",
+            16 => "the caller's key policy is not 1 <= m <= n <= 8",
             17 => "chunk 1 has no room for code",
-            18 => "the file length is no multiple of 4, under 1,540, or above the slot's",
-            19 => {
-                "the call does not fit the session, the slot is not as long as at its begin, \
-                 or the record's numbers cannot be"
+            18 => {
+                "the file length is not a multiple of 4, is under 1,540, \
+                 or is above the slot's length"
             }
-            20 => "the keys are not 32 bytes for each of n, or the string is over 255 bytes",
+            19 => {
+                "the session is over or not ready for this call, \
+                 the slot's length is not that at begin, or the record is inconsistent"
+            }
+            20 => "the keys are not 32 * n bytes, or the string is over 255 bytes",
             21 => "the output is shorter than the header",
-            22 => "the slot's length is no multiple of 4,096 from 4,096 to 2,097,152",
-            23 => "the word about to be stored over is not erased",
+            22 => "the slot's length is not a multiple of 4,096 from 4,096 to 2,097,152",
+            23 => "the slot's word that would be overwritten is not erased",
             _ => "no call gives this number",
         }
     }

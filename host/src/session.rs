@@ -5,11 +5,13 @@ use crate::check::Inputs;
 use crate::ffi;
 use crate::refusal::Refusal;
 
-/// An install in progress. The slot is lent to each call anew and must be the same each time.
+/// An install in progress. The slot is lent to each call anew and must be the same each time. A
+/// call refuses with 19 where the session is over, or the slot's length is not that at begin.
 ///
-/// The first word of the file stays in the session until [`close`](Session::close) stores it. Until
-/// then [`check_slot`](crate::check_slot) refuses the slot with 1. Once a close has succeeded, the
-/// slot holds the file and erased bytes after it. After a power cut, begin again.
+/// The first word of the file stays in the session until [`close`](Session::close) stores it. From
+/// the first erase until then, [`check_slot`](crate::check_slot) refuses the slot with 1. Once a
+/// close has succeeded, the slot holds the file, and the bytes after it are erased. After a power
+/// cut, begin again.
 ///
 /// ```
 /// use thimmorel::{check_slot, write_firmware, write_vendor, Session};
@@ -48,7 +50,7 @@ pub struct Session {
     record: [u32; 16],
 }
 
-/// The digests that the signatures of a new file are over, or why there is none.
+/// The digests that the signatures of a new file sign, or why there is none.
 #[derive(Clone, Copy, Debug, PartialEq, Eq)]
 pub struct Digests {
     /// As [`vendor_digest`](crate::vendor_digest) answers for the file.
@@ -60,8 +62,9 @@ pub struct Digests {
 impl Session {
     /// Begins to install a file of this length. The slot is not changed.
     ///
-    /// Refusals, in order: 22 if the slot's length is no multiple of 4,096 from 4,096 to 2,097,152;
-    /// 18 if the file's length is no multiple of 4, under 1,540, or above the slot's.
+    /// Refusals, in order: 22 if the slot's length is not a multiple of 4,096 from 4,096 to
+    /// 2,097,152; 18 if the file's length is not a multiple of 4, is under 1,540, or is above the
+    /// slot's length.
     pub fn begin(slot: &[u8], file_length: usize) -> Result<Session, Refusal> {
         let mut record = [0; 16];
         // SAFETY: the pointer and the length are those of one slice, and the array is a local, so
@@ -72,7 +75,7 @@ impl Session {
         Ok(Session { record })
     }
 
-    /// Erases the next page of the slot, from the first up. 19 if it is not the turn of an erase.
+    /// Erases the next page of the slot, from the first up. 19 once all pages are erased.
     pub fn erase(&mut self, slot: &mut [u8]) -> Result<(), Refusal> {
         // SAFETY: the pointer and the length are those of one slice. The slot and the record are
         // borrowed mutably, so they do not overlap.
@@ -84,7 +87,7 @@ impl Session {
     /// Gives the next bytes of the file, and tells how many of the piece were taken: 0 to 4. Call
     /// again with the rest.
     ///
-    /// Refusals, in order: 19 if it is not the turn of a fill; 23 if a word would be stored over
+    /// Refusals, in order: 19 while pages are still to be erased; 23 if a word would be stored over
     /// one that is not erased.
     pub fn fill(&mut self, piece: &[u8], slot: &mut [u8]) -> Result<usize, Refusal> {
         let mut taken = [0];
@@ -104,7 +107,7 @@ impl Session {
         Ok(taken[0] as usize)
     }
 
-    /// The digests that the signatures of the new file are over. 19 unless all bytes are taken.
+    /// The digests that the signatures of the new file sign. 19 until all bytes are taken.
     pub fn ask(&self, slot: &[u8]) -> Result<Digests, Refusal> {
         let mut answers = [0; 6];
         let mut digests = [0; 64];
@@ -134,7 +137,7 @@ impl Session {
     /// Checks the new file as [`check_file`](crate::check_file) does and, if it is accepted, stores
     /// its first word. `Ok` is Done.
     ///
-    /// Refusals, in order: 19 unless all bytes are taken; 23 if the slot's first word is not
+    /// Refusals, in order: 19 until all bytes are taken; 23 if the slot's first word is not
     /// erased; those of the check, which end the session.
     pub fn close(&mut self, slot: &mut [u8], inputs: Inputs) -> Result<(), Refusal> {
         let mut place = [0; 2];
@@ -166,7 +169,7 @@ impl Session {
         &self.record
     }
 
-    /// A session from stored words. Words whose numbers cannot be get 19 from every call.
+    /// A session from stored words. An inconsistent record gets 19 from every call.
     pub fn from_words(words: [u32; 16]) -> Session {
         Session { record: words }
     }

@@ -18,8 +18,8 @@ pub struct Trust {
 }
 
 impl Trust {
-    /// Reads the vendor header at the start of the bytes. A feature is active where its bit is
-    /// unset. Read it from bytes that a check accepted: a byte that is not there counts as 0.
+    /// Reads the vendor header at the start of the bytes. A feature is active if its bit is unset.
+    /// Read it from bytes that a check accepted: a byte past the end counts as 0.
     ///
     /// ```
     /// use thimmorel::{write_vendor, Trust, VendorHeader};

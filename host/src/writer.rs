@@ -8,7 +8,7 @@ use crate::refusal::Refusal;
 /// What a vendor header says. By default every field is 0 or empty, and the header never expires.
 #[derive(Clone, Copy, Debug)]
 pub struct VendorHeader<'a> {
-    /// The last time at which the header is good. 0 is never to expire.
+    /// The last time at which the header is valid, or 0 for no expiry.
     pub expiry: u32,
     /// The major version.
     pub major: u8,
@@ -20,7 +20,7 @@ pub struct VendorHeader<'a> {
     pub n: u8,
     /// See [`Trust`](crate::Trust).
     pub vtrust: u16,
-    /// Which keys signed this header. The writer does not judge it.
+    /// Which keys signed this header. The writer does not check it.
     pub sigmask: u8,
     /// The keys, 32 bytes each.
     pub keys: &'a [u8],
@@ -54,15 +54,15 @@ impl Default for VendorHeader<'_> {
 /// the header never expires.
 #[derive(Clone, Copy, Debug)]
 pub struct FirmwareHeader {
-    /// The length of the vendor header that will stand before this one.
+    /// The length of the vendor header that will precede this one.
     pub v: u32,
-    /// The last time at which the header is good. 0 is never to expire.
+    /// The last time at which the header is valid, or 0 for no expiry.
     pub expiry: u32,
     /// The version.
     pub version: Version,
     /// The fix version.
     pub fix: Version,
-    /// Which of the vendor's keys signed this header. The writer does not judge it.
+    /// Which of the vendor's keys signed this header. The writer does not check it.
     pub sigmask: u8,
     /// The signature of this header.
     pub sig: [u8; 64],
@@ -130,8 +130,9 @@ pub fn write_vendor(fields: &VendorHeader, out: &mut [u8]) -> Result<usize, Refu
 
 /// Writes a firmware header for code that will follow it, and tells the header's length, 1,024.
 ///
-/// Refusals, in order: 3 if v is no multiple of 512 from 512 to 65,536; 12 if the code's length is
-/// 0, no multiple of 4, or above 2,097,152 − 1,024 − v; 21 if the output is shorter than 1,024.
+/// Refusals, in order: 3 if v is not a multiple of 512 from 512 to 65,536; 12 if the code's length
+/// is 0, not a multiple of 4, or above 2,097,152 − 1,024 − v; 21 if the output is shorter than
+/// 1,024.
 ///
 /// ```
 /// use thimmorel::{write_firmware, FirmwareHeader};

@@ -126,8 +126,5 @@ fn assert_writes_at(at: usize, mut message: Vec<u8>) {
 
 #[test]
 fn from_c_and_cpp() {
-    c::run(&c::build("digest", "gcc", &["-std=c99"]));
-    if c::is_there("g++") {
-        c::run(&c::build("digest", "g++", &["-x", "c++"]));
-    }
+    c::run_as_c_and_cpp("digest");
 }

@@ -1,6 +1,6 @@
-//! The model against the numbers that the build specification gives under "Numbers on both
-//! sides": P1 to P12, then those without a mark. A number that the model gets wrong here would be
-//! wrong in every test that compares the archive with it.
+//! The model against the worked numbers of the specification, 13: P1 to P12, then those without a
+//! mark. A number that the model gets wrong here would be wrong in every test that compares the
+//! archive with it.
 
 mod model;
 

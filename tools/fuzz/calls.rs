@@ -1,6 +1,6 @@
 //! Target `calls`: a file with a fault or none, then a list of calls after a begin, in turn or not.
 //! Record and slot are carried on, also into the next begin, and compared after every call. On a
-//! slot that nobody else writes, "done means landed" is watched too.
+//! slot that nobody else writes, "done means landed" (specification, 11) is watched too.
 
 use crate::both::{Both, AFTER};
 use crate::check::compare_check;

@@ -90,7 +90,7 @@ fn put(bytes: &mut [u8], at: usize, value: &[u8]) {
 
 /// The bytes are lent at an odd place. Those behind the lent ones are still there, so that a call
 /// that reads on finds what it must not see.
-fn compare_all(form: Form, bytes: &[u8], length: usize, inputs: &Inputs) {
+pub fn compare_all(form: Form, bytes: &[u8], length: usize, inputs: &Inputs) {
     let memory = [&[0x5a; 5], bytes].concat();
     let before = memory.clone();
     let lent = &memory[5..][..length];

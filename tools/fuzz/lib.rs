@@ -21,6 +21,8 @@ mod landed;
 mod moment;
 #[path = "../../host/tests/differential/tally.rs"]
 mod tally;
+#[path = "../../host/tests/differential/written.rs"]
+mod written;
 
 /// The modules above draw from `Random`. Here it is the input.
 mod common {
@@ -34,6 +36,7 @@ mod check;
 mod input;
 mod mutate;
 mod records;
+mod writers;
 
 use input::Input;
 
@@ -76,4 +79,9 @@ unsafe extern "C" fn fuzz_records(bytes: *const u8, length: usize) {
 #[no_mangle]
 unsafe extern "C" fn fuzz_calls(bytes: *const u8, length: usize) {
     give(bytes, length, calls::target);
+}
+
+#[no_mangle]
+unsafe extern "C" fn fuzz_writers(bytes: *const u8, length: usize) {
+    give(bytes, length, writers::target);
 }

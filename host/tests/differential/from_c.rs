@@ -5,8 +5,5 @@ use crate::common::c;
 
 #[test]
 fn from_c_and_cpp() {
-    c::run(&c::build("install", "gcc", &["-std=c99"]));
-    if c::is_there("g++") {
-        c::run(&c::build("install", "g++", &["-x", "c++"]));
-    }
+    c::run_as_c_and_cpp("install");
 }

@@ -1,6 +1,6 @@
-//! "Done means landed", watched from outside: a history told from the calls and their answers
-//! alone, and after each call what must then be true of the slot, whichever call was the last
-//! before the power failed.
+//! "Done means landed" (specification, 11), watched from outside: a history told from the calls and
+//! their answers alone, and after each call what must then be true of the slot, whichever call was
+//! the last before the power failed.
 
 use crate::archive::image as archive;
 use crate::common::random::Random;

@@ -14,13 +14,14 @@ mod faults;
 mod landed;
 mod moment;
 mod tally;
+mod written;
 
 mod calls;
 mod checks;
 mod damage;
 mod from_c;
 mod installs;
-mod questions;
 mod records;
+mod signing;
 mod wrapper;
 mod writers;

@@ -8,7 +8,6 @@ use crate::model::image::{self as model, Form, Inputs};
 use crate::model::layout::Firmware;
 use crate::model::writer;
 use crate::tally::{cases, step, Tally, ACCEPTED, STEPS};
-use std::collections::BTreeSet;
 use thimmorel::{FirmwareHeader, Image, Refusal, Session, Trust, VendorHeader, Version};
 
 fn inputs(inputs: &Inputs) -> thimmorel::Inputs {
@@ -230,14 +229,7 @@ fn sessions_with_faulty_files() {
 }
 
 #[test]
-fn each_number_has_a_sentence() {
-    let sentences: BTreeSet<String> = (0..=24)
-        .map(|number| alone(number).to_string())
-        .map(|text| text.split(": ").nth(1).expect("a sentence").to_string())
-        .collect();
-    // 0 and 24 share the sentence of numbers that no call gives.
-    assert_eq!(sentences.len(), 24);
-
+fn how_a_refusal_reads() {
     let refusal = Refusal {
         number: 14,
         part: 3,

@@ -1,9 +1,10 @@
-//! The check of a file and of a slot, the parts handed back, the two digest questions and the
-//! vendor trust reading, in the order of 01. Each step is judged only where all before it hold.
+//! The check of a file and of a slot with the parts handed back (specification, 6), the two digest
+//! questions (5) and the vendor trust reading (7). Each step is judged only where all before it
+//! hold.
 
 use super::blake2s::blake2s;
 use super::layout::{
-    chunk, hash_of, room_in_first, Firmware, Vendor, CHUNKS, FIRMWARE_HEADER, LARGEST, SEAL,
+    chunk, hash_of, room_in_first, word, Firmware, Vendor, CHUNKS, FIRMWARE_HEADER, LARGEST, SEAL,
 };
 use std::ops::Range;
 
@@ -169,7 +170,7 @@ fn chunks(bytes: &[u8]) -> Step {
             return Err(Refusal {
                 number,
                 part: CODE,
-                chunk: k as u32,
+                chunk: word(k),
             });
         }
     }
@@ -190,8 +191,8 @@ pub fn check(form: Form, bytes: &[u8], inputs: &Inputs) -> Result<Image, Refusal
     let v = Vendor(bytes).hdrlen();
     let header = Firmware(&bytes[v..]);
     Ok(Image {
-        v: v as u32,
-        codelen: header.codelen() as u32,
+        v: word(v),
+        codelen: word(header.codelen()),
         version: header.version(),
         fix: header.fix(),
     })
@@ -262,8 +263,7 @@ pub fn trust(vtrust: u16) -> Trust {
     }
 }
 
-/// The reading of lent bytes, whose vtrust stands at 16. 01 does not say what bytes too short for
-/// the field give: a byte that is not there counts as 0.
+/// The reading of lent bytes, whose vtrust stands at 16. A byte past the end counts as 0.
 pub fn trust_of(bytes: &[u8]) -> Trust {
     let byte = |at: usize| bytes.get(at).copied().unwrap_or(0);
     trust(u16::from_le_bytes([byte(16), byte(17)]))

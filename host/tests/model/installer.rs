@@ -1,8 +1,7 @@
-//! The session record and the installer's calls, as 01 states them under "The flash and the
-//! installer". Each call makes at most one operation on the slot: one page erased, or one word
-//! stored over an erased one.
+//! The session record and the installer's calls (specification, 9 and 10). Each call makes at most
+//! one operation on the slot: one page erased, or one word stored over an erased one.
 
-use super::image::{check, firmware_digest, vendor_digest, Form, Image, Inputs, Refusal};
+use super::image::{check, firmware_digest, vendor_digest, Form, Inputs, Refusal};
 
 const PAGE: usize = 4_096;
 const WORD: usize = 4;
@@ -87,8 +86,8 @@ impl Record {
         self.all_erased() && self.bytes_taken == self.file_length
     }
 
-    /// Whether its numbers can be: 01's list under 19, in its order.
-    fn can_be(&self) -> bool {
+    /// Whether its numbers agree: the list under 19, in its order.
+    fn is_consistent(&self) -> bool {
         self.pages_erased <= self.pages()
             && (self.bytes_taken == 0 || self.all_erased())
             && self.bytes_taken <= self.file_length
@@ -97,12 +96,12 @@ impl Record {
             && self.operations == self.pages_erased + self.words_stored()
     }
 
-    /// 19, unless the session is open, the slot is as long as at begin, the numbers can be and
-    /// `phase_is_right` says that the call's turn has come.
+    /// 19, unless the session is open, the slot is as long as at begin, the record is consistent
+    /// and `phase_is_right` says that the session is ready for the call.
     fn expect(&self, slot: &[u8], phase_is_right: fn(&Record) -> bool) -> Result<(), u32> {
         let good = self.phase == OPEN
             && slot.len() == self.slot_length
-            && self.can_be()
+            && self.is_consistent()
             && phase_is_right(self);
         match good {
             true => Ok(()),
@@ -182,14 +181,13 @@ fn alone(number: u32) -> Refusal {
     }
 }
 
-/// Close: Done, told as the image that the check accepted, or a refusal. Only a refusal by the
-/// check ends the session.
-pub fn close(record: &mut Record, slot: &mut [u8], inputs: &Inputs) -> Result<Image, Refusal> {
+/// Close: Done, or a refusal. Of the refusals only the check's ends the session.
+pub fn close(record: &mut Record, slot: &mut [u8], inputs: &Inputs) -> Result<(), Refusal> {
     record.expect(slot, Record::full).map_err(alone)?;
     expect_erased(slot, 0).map_err(alone)?;
     record.phase = OVER;
-    let image = check(Form::File, &record.file(slot), inputs)?;
+    check(Form::File, &record.file(slot), inputs)?;
     slot[..WORD].copy_from_slice(&record.first);
     record.operations += 1;
-    Ok(image)
+    Ok(())
 }

@@ -1,5 +1,5 @@
-//! Where each field of the two headers stands, as the tables of 01 say, and how code fills the
-//! chunks. A field is read at its place and nowhere else: a model that reads past the bytes it
+//! Where each field of the two headers stands (specification, 2 and 3), and how code fills the
+//! chunks (4). A field is read at its place and nowhere else: a model that reads past the bytes it
 //! has stops the test.
 
 use super::blake2s::blake2s;
@@ -18,6 +18,11 @@ pub const CHUNKS: usize = 16;
 
 /// Bytes of the largest image.
 pub const LARGEST: usize = 2_097_152;
+
+/// A number as 32 bits. One that does not fit stops the test.
+pub fn word(number: usize) -> u32 {
+    u32::try_from(number).expect("32 bits")
+}
 
 fn u32_at(bytes: &[u8], at: usize) -> u32 {
     u32::from_le_bytes(bytes[at..at + 4].try_into().expect("four bytes"))
@@ -102,7 +107,7 @@ impl Firmware<'_> {
         four_at(self.0, 20)
     }
 
-    /// Hash k of 01 is the element at k − 1.
+    /// Hash k is the element at k − 1.
     pub fn hashes(&self) -> [[u8; 32]; CHUNKS] {
         std::array::from_fn(|i| {
             let at = 32 + 32 * i;

@@ -1,6 +1,28 @@
-//! Independent models of what the archive computes. Each is written from its document alone, and
-//! for reading and not for speed. None shares code with the library. "01" is the build
-//! specification, and S1 to S23 are the steps of its check.
+//! Independent models of what the archive computes, written for reading and not for speed. None
+//! shares code with the library. BLAKE2s is written from RFC 7693, the rest from
+//! `docs/SPECIFICATION.md`, whose sections and steps (S1 to S23) are cited.
+//!
+//! Where the specification leaves a point open, the model follows `docs/DECISIONS.md`:
+//!
+//! - An acceptance tells the firmware header's version and fix version. It does not tell the vendor
+//!   header's.
+//! - The picture area is opaque up to the sigmask: S8 tests no byte of it.
+//! - The check of a slot does not test the slot's length.
+//! - The trust reading takes a byte past the end as 0.
+//! - The phase of a session follows from its numbers, and a record that no session reaches is
+//!   inconsistent. So erase answers 19 once all pages are erased, and every call does with bytes
+//!   taken while pages are still to be erased.
+//! - A first word of a record other than 1 is a session that is over.
+//! - 23 is answered only where a word would be stored. A fill that completes no word, or the first,
+//!   does not look at the slot. At 23 no byte of the piece is taken. Close tests the first word
+//!   before it runs the check. Ask never answers 23.
+//! - Ask answers 19 once, for both digests.
+//! - Storing a word of four bytes of 255 is an operation, and is counted.
+//! - Done tells nothing else.
+//!
+//! Two more such points are not modelled, and are tested in `differential`: `where` is always
+//! written and is 0 on success (archive/mod.rs), and the reserved words of a record are not read,
+//! and are 0 once a call has written the record (both.rs).
 
 // Each test takes the models that it needs.
 #![allow(dead_code)]

@@ -1,9 +1,9 @@
-//! The writers of both headers: their refusals in the order of 01, and the rule for the output.
-//! A refused writer changes nothing. One that succeeds writes the header at the output's start,
-//! and the bytes past it stay.
+//! The writers of both headers (specification, 8): their refusals in order, and the rule for the
+//! output. A refused writer changes nothing. One that succeeds writes the header at the output's
+//! start, and the bytes past it stay.
 
 use super::image::{code_length_is_possible, policy_is_possible, vendor_length_is_possible};
-use super::layout::{chunk, hash_of, CHUNKS, FIRMWARE_HEADER, SEAL};
+use super::layout::{chunk, hash_of, word, CHUNKS, FIRMWARE_HEADER, SEAL};
 
 /// What the vendor writer takes.
 #[derive(Clone, Debug)]
@@ -53,7 +53,7 @@ fn vendor_body(fields: &VendorFields) -> Vec<u8> {
     body.extend(fields.vtrust.to_le_bytes());
     body.extend([0; 14]);
     body.extend(&fields.keys);
-    body.push(fields.string.len() as u8);
+    body.push(u8::try_from(fields.string.len()).expect("at most 255"));
     body.extend(&fields.string);
     body.resize(body.len().next_multiple_of(4), 0);
     body.extend(&fields.picture);
@@ -70,7 +70,7 @@ pub fn vendor_header(fields: &VendorFields) -> Result<Vec<u8>, u32> {
     let mut header = vendor_body(fields);
     let v = (header.len() + SEAL).next_multiple_of(512);
     refuse_if(v > 65_536, 3)?;
-    header[4..8].copy_from_slice(&(v as u32).to_le_bytes());
+    header[4..8].copy_from_slice(&word(v).to_le_bytes());
     header.resize(v - SEAL, 0);
     header.push(fields.sigmask);
     header.extend(fields.sig);
@@ -89,9 +89,9 @@ pub fn firmware_header(fields: &FirmwareFields, code: &[u8]) -> Result<Vec<u8>, 
     refuse_if(!code_length_is_possible(code.len(), v), 12)?; // as S16
 
     let mut header = b"TRZF".to_vec();
-    header.extend((FIRMWARE_HEADER as u32).to_le_bytes());
+    header.extend(word(FIRMWARE_HEADER).to_le_bytes());
     header.extend(fields.expiry.to_le_bytes());
-    header.extend((code.len() as u32).to_le_bytes());
+    header.extend(word(code.len()).to_le_bytes());
     header.extend(fields.version);
     header.extend(fields.fix);
     header.extend([0; 8]);

@@ -101,7 +101,10 @@ fn no_part_reaches_past_the_bytes() {
         let bytes = &draft.bytes()[..length];
         let parts = archive::parts(bytes, 0);
         for part in [parts.string, parts.picture, parts.code] {
-            assert!(bytes.get(part.clone()).is_some(), "{part:?} of {length} bytes");
+            assert!(
+                bytes.get(part.clone()).is_some(),
+                "{part:?} of {length} bytes"
+            );
             cut += usize::from(part.end == length);
         }
     }

@@ -1,14 +1,14 @@
-//! The digest questions: what the signature of each header is over.
+//! The digests that the signatures of the two headers sign.
 
 use crate::ffi;
 use crate::refusal::Refusal;
 
 type Question = unsafe extern "C" fn(*const u8, usize, *mut [u32; 2], *mut [u8; 32]) -> u32;
 
-/// The digest of the vendor header that its signature is over.
+/// The digest that the vendor header's signature signs.
 ///
-/// The header must be well shaped (S1 and S3 to S8 of the check); no time, policy or verdict
-/// matters, and nothing after the header is looked at.
+/// The header must pass S1 and S3 to S8 of the check. No time, policy or verdict matters, and
+/// nothing after the header is looked at.
 ///
 /// ```
 /// use thimmorel::{vendor_digest, write_vendor, VendorHeader};
@@ -27,9 +27,10 @@ pub fn vendor_digest(bytes: &[u8]) -> Result<[u8; 32], Refusal> {
     ask(ffi::thimmorel_vendor_digest, bytes)
 }
 
-/// The digest of the firmware header that its signature is over.
+/// The digest that the firmware header's signature signs.
 ///
-/// Both headers must be well shaped (S1, S3 to S8 and S12 to S17). The code need not be there.
+/// Both headers count: S1, S3 to S8 and S12 to S17 must hold. The code need not be
+/// present.
 pub fn firmware_digest(bytes: &[u8]) -> Result<[u8; 32], Refusal> {
     ask(ffi::thimmorel_firmware_digest, bytes)
 }
