@@ -2,7 +2,9 @@
 //! shares code with the library. BLAKE2s is written from RFC 7693, the rest from
 //! `docs/SPECIFICATION.md`, whose sections and steps (S1 to S23) are cited.
 //!
-//! Where the specification leaves a point open, the model follows `docs/DECISIONS.md`:
+//! These points are decisions of the project (`docs/DECISIONS.md`), whether the specification states
+//! them by now or not. The model shares them with the library, so no test here would show a wrong
+//! one:
 //!
 //! - An acceptance tells the firmware header's version and fix version. It does not tell the vendor
 //!   header's.

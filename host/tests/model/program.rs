@@ -1,5 +1,4 @@
 //! The inspecting program (specification, 12): what it writes for what is on its standard input.
-//! The specification gives one line of a refusal; all others are taken to read like it.
 
 use super::image::{check, Form, Inputs};
 
