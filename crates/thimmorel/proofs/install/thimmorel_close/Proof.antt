@@ -1,4 +1,4 @@
--- What the calls ensure: the record that the words hold, the turn and the slot of `close`, the place, and what `tell` leaves.
+-- What the calls ensure: the record that the words hold, the turn and the slot of `close`, and what `tell_closed` leaves.
 use borrow.Author.Needs.{needs}
 use Rattle.thimmorel.proofs.install.thimmorel_close.Statement.{statement}
 use Rattle.thimmorel.proofs.install.thimmorel_close.Tie as tie
@@ -7,7 +7,6 @@ pub thimmorel-close-spec : {M : Type 1} → statement M
 thimmorel-close-spec =
     tie.close
     (tie.spec
-    (λ c κs. search needs)
     (λ c κs. search needs)
     (λ c κs. search needs)
     (λ c κs. search needs)
