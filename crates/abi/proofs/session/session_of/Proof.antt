@@ -4,8 +4,20 @@ use Rattle.abi.specs.Session.{sessionOf}
 use Rattle.abi.proofs.session.session_of.Statement.{statement}
 use Rattle.abi.proofs.session.session_of.Tie as tie
 
-pub session-of-spec : {M : Type 1} → statement M
+returns : tie.Need-returns
 unfolding sessionOf
+returns c =
+    rw (
+      c .before .before .before .before .before .before .bytes-of .ensures,
+      c .before .before .before .before .before .bytes-of2 .ensures,
+      c .before .before .before .before .whole .ensures,
+      c .before .before .before .whole2 .ensures,
+      c .before .before .whole3 .ensures,
+      c .before .whole4 .ensures,
+      c .whole5 .ensures,
+    )
+
+pub session-of-spec : {M : Type 1} → statement M
 session-of-spec =
     tie.close
     (tie.spec
@@ -24,4 +36,4 @@ session-of-spec =
     (λ c κs. search needs)
     (λ c. search needs)
     (λ c κs. search needs)
-    (λ c. cc))
+    returns)
