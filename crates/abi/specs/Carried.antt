@@ -1,5 +1,6 @@
 -- The words carry the record: what a call leaves in the caller's words is the record that the call gave. So a caller who keeps the words
--- between calls gives each call the record that the last one left, which is what a list of calls is shown of (specification, 10.2).
+-- between calls gives each call the record that the last one left, and what is shown of a list of calls (specification, 10) holds of the
+-- calls in C. The words are those of the specification, 10.2.
 -- Assumes nothing.
 use Prim.Native.Nat.{ℕ, _<_}
 use mathlib.Core.Path.{_≡_}

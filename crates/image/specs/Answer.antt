@@ -11,7 +11,7 @@ use Rattle.image.specs.declared.Image.{Image}
 use Rattle.image.specs.declared.Answer.{Answer}
 use Rattle.image.specs.declared.Answer.the-variants.{Accepted, Rejected}
 
--- the paper's number of every answer
+-- the number of every answer (specification, 14)
 abbrev pub numberOf : Answer → ℕ
 numberOf (Accepted i) = 0
 numberOf (Rejected r) = r .number

@@ -1,4 +1,4 @@
--- The check of a file and of a slot (01, "The check, in order"): S1 to S23. The first failing step answers.
+-- The check of a file and of a slot (specification, 6): S1 to S23. The first failing step answers.
 -- The two differ in S22 alone. The boot check is the check of a slot.
 -- Assumes nothing.
 use mathlib.Core.List.{List, _++_}

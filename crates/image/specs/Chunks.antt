@@ -1,4 +1,4 @@
--- The code in chunks, and S23 (01, "Firmware header" and "The check, in order"): hash k is the BLAKE2s digest of chunk k, or all zero if chunk k holds nothing.
+-- The code in chunks, and S23 (specification, 4 and 6): hash k is the BLAKE2s digest of chunk k, or all zero if chunk k holds nothing.
 -- Chunks count from 1 in an answer; here k counts from 0, so that chunk k + 1 stands at k.
 -- Assumes nothing.
 use Prim.Native.Nat.{ℕ, zero, suc, _+_, _*_}

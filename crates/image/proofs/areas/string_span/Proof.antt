@@ -3,6 +3,9 @@ use borrow.Author.Needs.{needs}
 use Rattle.image.proofs.areas.string_span.Statement.{statement}
 use Rattle.image.proofs.areas.string_span.Tie as tie
 
+returns : tie.Need-returns
+returns c = rw (c .string-end .ensures, c .before .string-len .ensures, c .before .before .string-start .ensures, c .before .before .before .key-count .ensures)
+
 pub string-span-spec : {M : Type 1} → statement M
 string-span-spec =
     tie.close
@@ -11,4 +14,4 @@ string-span-spec =
     (λ c κs. search needs)
     (λ c κs. search needs)
     (λ c κs. search needs)
-    (λ c. cc))
+    returns)
