@@ -5,11 +5,12 @@ use Prim.Native.Nat.{ℕ, zero, suc, _+_, _*_}
 use mathlib.Core.List.{List, [], _∷_, _++_}
 use mathlib.Core.Bool.{not}
 use lib.ListN.{getD, replicate}
-use Rattle.octets.specs.Read.{between, bytesAt, same}
+use Rattle.octets.specs.Read.{between, spanOf, bytesAt, same}
 use Rattle.blake2s.specs.Rfc7693.{blake2sOf}
-use Rattle.header.specs.Layout.{vendorLen, codeStart, imageLen, firstRoom}
+use Rattle.header.specs.Layout.{vendorLen, firstRoom}
 use Rattle.header.specs.Table.{Row, row}
 use Rattle.header.specs.declared.Refusal.{Refusal}
+use Rattle.image.specs.Areas.{codeSpan}
 
 -- ---- chunks of the code, by the room that chunk 1 has
 
@@ -51,7 +52,7 @@ hashTable b = hashesAt 16 b (vendorLen b + 32)
 -- ---- S23
 
 abbrev pub codeOf : List ℕ → List ℕ
-codeOf b = between (codeStart b) (imageLen b) b
+codeOf b = spanOf (codeSpan b) b
 
 -- 14 if the chunk is used, 15 if it holds nothing; part 3, and the chunk
 abbrev pub wrongHash : List ℕ → ℕ → Refusal

@@ -1,4 +1,5 @@
 -- What the contracts of image cite.
+pub mod Areas
 pub mod Chunks
 pub mod Answer
 pub mod Check

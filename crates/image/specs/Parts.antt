@@ -2,17 +2,16 @@
 -- Assumes nothing.
 use mathlib.Core.List.{List, []}
 use Prim.Native.Nat.{ℕ}
-use Rattle.octets.specs.Read.{between}
-use Rattle.header.specs.Layout.{vendorLen, keyCount, stringLen, stringStart, stringEnd, pictureStart, maskAt}
+use Rattle.octets.specs.Read.{spanOf}
+use Rattle.image.specs.Areas.{stringSpan, pictureSpan}
 use Rattle.image.specs.declared.Answer.{Answer}
 use Rattle.image.specs.declared.Answer.the-variants.{Accepted, Rejected}
 
 abbrev pub stringOf : List ℕ → List ℕ
-stringOf b = between (stringStart (keyCount b)) (stringEnd (keyCount b) (stringLen b)) b
+stringOf b = spanOf (stringSpan b) b
 
--- the picture area, padding counted in
 abbrev pub pictureOf : List ℕ → List ℕ
-pictureOf b = between (pictureStart (keyCount b) (stringLen b)) (maskAt (vendorLen b)) b
+pictureOf b = spanOf (pictureSpan b) b
 
 -- a part where the answer is an acceptance, and nothing after a refusal
 abbrev pub whenAccepted : Answer → List ℕ → List ℕ

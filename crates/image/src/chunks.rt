@@ -2,16 +2,16 @@
 //
 // The chunks are told by the room that the first one has, which is all that differs between one
 // family of images and another. The writer makes its hashes with the same calls.
+use crate::areas::code_span;
 use blake2s::blake2s;
 use header::Outcome;
 use header::Refusal;
-use header::layout::code_start;
 use header::layout::first_room;
-use header::layout::image_len;
 use header::layout::vendor_len;
 use octets::digest_at;
 use octets::part;
 use octets::same_digest;
+use octets::span_of;
 ghost use mathlib.Core.Path.{_≡_};
 ghost use mathlib.Core.List.{[], _∷_};
 ghost use Rattle.header.specs.Table.{firstFailing};
@@ -76,7 +76,7 @@ pub fn hash_rows(b: &[u8]) -> Outcome
     ensures { λ r. ⌜ r ≡ firstFailing (hashRows (now (b .entry))) ⌝ }
 {
     let table = hash_table(b);
-    let code = part(b, code_start(b), image_len(b));
+    let code = span_of(b, code_span(b));
     let first = first_room(vendor_len(b) as usize);
     let mut at: usize = 0;
     let mut k: usize = 0;

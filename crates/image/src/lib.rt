@@ -4,35 +4,33 @@
 // Any bytes, any inputs: an answer, and nothing is written. Nothing of the image is copied but its
 // table of sixteen hashes and the last, partial block of a chunk. The check of a slot is the boot
 // check.
+pub mod areas;
 pub mod chunks;
 pub mod theorems;
 
+use areas::code_span;
+use areas::picture_span;
+use areas::string_span;
 use chunks::hash_rows;
 use header::Inputs;
 use header::Outcome;
 use header::Refusal;
 use header::layout::code_len;
-use header::layout::code_start;
-use header::layout::image_len;
-use header::layout::key_count;
-use header::layout::picture_start;
-use header::layout::string_end;
-use header::layout::string_len;
-use header::layout::string_start;
 use header::layout::vendor_len;
 use header::steps::bytes_follow;
 use header::steps::tail_not_erased;
 use header::steps::vendor_magic_missing;
 use header::table::extent_rows;
 use header::table::header_rows;
+use octets::Span;
 use octets::byte_at;
-use octets::minus;
-use octets::part;
 use octets::rest;
+use octets::span_of;
 use octets::starts_with;
 ghost use mathlib.Core.Path.{_≡_};
 ghost use mathlib.Core.List.{_++_};
 ghost use lib.ListN.{drop};
+ghost use Rattle.octets.specs.Read.{spanOf};
 ghost use Rattle.header.specs.Table.{firstFailing};
 ghost use Rattle.image.specs.Chunks.{codeOf};
 ghost use Rattle.image.specs.Answer.{versionAt, imageOf, answerOf};
@@ -135,52 +133,33 @@ pub fn check_file_word_apart(first: [u8; 4], b: &[u8], given: Inputs) -> Answer
     answer_of(outcome, b)
 }
 
-fn string_area(b: &[u8]) -> &[u8]
-    ensures { λ r. ⌜ now r ≡ stringOf (now (b .entry)) ⌝ }
+// The bytes of a span after an acceptance, and nothing after a refusal.
+fn area(b: &[u8], answer: Answer, span: Span) -> &[u8]
+    ensures { λ r. ⌜ now r ≡ whenAccepted answer (spanOf span (now (b .entry))) ⌝ }
 {
-    let n = key_count(b);
-    part(b, string_start(n), string_end(n, string_len(b)))
-}
-
-fn picture_area(b: &[u8]) -> &[u8]
-    ensures { λ r. ⌜ now r ≡ pictureOf (now (b .entry)) ⌝ }
-{
-    let start = picture_start(key_count(b), string_len(b));
-    part(b, start, minus(vendor_len(b) as usize, 65))
-}
-
-fn code_area(b: &[u8]) -> &[u8]
-    ensures { λ r. ⌜ now r ≡ codeOf (now (b .entry)) ⌝ }
-{
-    part(b, code_start(b), image_len(b))
+    match answer {
+        Answer::Rejected(_) => &b[..0],
+        Answer::Accepted(_) => span_of(b, span),
+    }
 }
 
 // The vendor's string in the checked bytes, and nothing after a refusal.
 pub fn string(b: &[u8], answer: Answer) -> &[u8]
     ensures { λ r. ⌜ now r ≡ whenAccepted answer (stringOf (now (b .entry))) ⌝ }
 {
-    match answer {
-        Answer::Rejected(_) => &b[..0],
-        Answer::Accepted(_) => string_area(b),
-    }
+    area(b, answer, string_span(b))
 }
 
 // The picture area in the checked bytes, and nothing after a refusal.
 pub fn picture(b: &[u8], answer: Answer) -> &[u8]
     ensures { λ r. ⌜ now r ≡ whenAccepted answer (pictureOf (now (b .entry))) ⌝ }
 {
-    match answer {
-        Answer::Rejected(_) => &b[..0],
-        Answer::Accepted(_) => picture_area(b),
-    }
+    area(b, answer, picture_span(b))
 }
 
 // The code in the checked bytes, and nothing after a refusal.
 pub fn code(b: &[u8], answer: Answer) -> &[u8]
     ensures { λ r. ⌜ now r ≡ whenAccepted answer (codeOf (now (b .entry))) ⌝ }
 {
-    match answer {
-        Answer::Rejected(_) => &b[..0],
-        Answer::Accepted(_) => code_area(b),
-    }
+    area(b, answer, code_span(b))
 }

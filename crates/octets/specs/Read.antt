@@ -6,6 +6,7 @@ use mathlib.Core.Bool.{Bool, true, false, _&&_}
 use lib.ListN.{getD, take, drop}
 use lib.Dec.{leb, eqb}
 use lib.Count.{ones}
+use Rattle.octets.specs.declared.Span.{Span}
 
 -- ---- numbers, little endian
 
@@ -20,6 +21,10 @@ u32At b at = getD b at 0 + 256 * getD b (at + 1) 0 + 65536 * getD b (at + 2) 0 +
 -- the bytes from a up to e, as many of them as there are
 unfoldable pub between : ℕ → ℕ → List ℕ → List ℕ
 between a e b = take (e - a) (drop a b)
+
+-- the bytes of a span
+abbrev pub spanOf : Span → List ℕ → List ℕ
+spanOf s b = between (s .from) (s .to) b
 
 -- the n bytes at an offset, with zeros past the end
 unfoldable pub bytesAt : ℕ → List ℕ → ℕ → List ℕ

@@ -9,7 +9,13 @@ pub mod theorems;
 ghost use mathlib.Core.Path.{_≡_};
 ghost use Prim.Native.Nat.{_+_, _-_, _≤_};
 ghost use lib.ListN.{length, drop, getD};
-ghost use Rattle.octets.specs.Read.{u16At, u32At, between, bytesAt, allAre, startsWith, same, onesOf, bitAtOrAbove};
+ghost use Rattle.octets.specs.Read.{u16At, u32At, between, spanOf, bytesAt, allAre, startsWith, same, onesOf, bitAtOrAbove};
+
+// Where an area of the bytes stands: from an offset up to another.
+pub struct Span {
+    pub from: usize,
+    pub to: usize,
+}
 
 fn wide(x: u8) -> u32
     ensures { λ r. ⌜ r ≡ x ⌝ }
@@ -33,6 +39,13 @@ pub fn part(s: &[u8], a: usize, e: usize) -> &[u8]
     } else {
         if a <= s.len() { &s[a..] } else { &s[..0] }
     }
+}
+
+// The bytes of a span.
+pub fn span_of(s: &[u8], span: Span) -> &[u8]
+    ensures { λ r. ⌜ now r ≡ spanOf span (now (s .entry)) ⌝ }
+{
+    part(s, span.from, span.to)
 }
 
 // The bytes from a on.

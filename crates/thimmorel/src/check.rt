@@ -1,76 +1,12 @@
-// The checks, for C.
+// The checks, for C (specification, 6).
+use abi::answer::tell;
 use header::Inputs;
-use image::Answer;
-use image::Image;
-use image::Version;
 use image::check_file;
 use image::check_slot;
 ghost use mathlib.Core.Path.{_≡_};
 ghost use Rattle.image.specs.Answer.{numberOf, whereOf};
 ghost use Rattle.image.specs.Check.{checkFile, checkSlot};
-ghost use Rattle.thimmorel.specs.Words.{inputs, versionWord, toldWords, imageWords};
-
-fn number_of(answer: Answer) -> u32
-    ensures { λ r. ⌜ r ≡ numberOf answer ⌝ }
-{
-    match answer {
-        Answer::Accepted(_) => 0,
-        Answer::Rejected(r) => r.number,
-    }
-}
-
-fn where_words(answer: Answer) -> [u32; 2]
-    ensures { λ r. ⌜ r ≡ whereOf answer ⌝ }
-{
-    match answer {
-        Answer::Accepted(_) => [0, 0],
-        Answer::Rejected(r) => [r.part, r.chunk],
-    }
-}
-
-fn wide(x: u8) -> u32
-    ensures { λ r. ⌜ r ≡ x ⌝ }
-{
-    x as u32
-}
-
-fn version_word(x: Version) -> u32
-    ensures { λ r. ⌜ r ≡ versionWord x ⌝ }
-{
-    wide(x.major) + 256 * wide(x.minor) + 65536 * wide(x.patch) + 16777216 * wide(x.build)
-}
-
-fn told_words(i: Image) -> [u32; 4]
-    ensures { λ r. ⌜ r ≡ toldWords i ⌝ }
-{
-    let version = i.version;
-    let fix = i.fix;
-    [i.v, i.codelen, version_word(version), version_word(fix)]
-}
-
-fn image_words(answer: Answer, old: [u32; 4]) -> [u32; 4]
-    ensures { λ r. ⌜ r ≡ imageWords answer old ⌝ }
-{
-    match answer {
-        Answer::Accepted(i) => told_words(i),
-        Answer::Rejected(_) => old,
-    }
-}
-
-// The answer's number comes back, its part and chunk go to place, and what an acceptance tells goes
-// to image, which a refusal leaves as it was.
-fn tell(answer: Answer, place: &mut [u32; 2], image: &mut [u32; 4]) -> u32
-    ensures { λ r. ⌜ r ≡ numberOf answer ⌝ }
-    ensures { λ r. ⌜ now (place .exit) ≡ whereOf answer ⌝ }
-    ensures { λ r. ⌜ now (image .exit) ≡ imageWords answer (now (image .entry)) ⌝ }
-{
-    let at = where_words(answer);
-    *place = at;
-    let old = *image;
-    let told = image_words(answer, old);
-    *image = told;
-    number_of(answer)
-}
+ghost use Rattle.abi.specs.Words.{inputs, imageWords};
 
 // The check of a file.
 #[no_mangle]

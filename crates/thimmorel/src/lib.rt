@@ -1,12 +1,11 @@
 // The C interface: what firmware links. `include/thimmorel.h` declares and documents each call.
 //
-// An exported function is thin. It calls the proved library and carries the same promise.
+// An exported function is thin. It calls the proved library, tells the answer by `abi`, and carries
+// the same promise.
 mod check;
 mod digests;
 mod install;
 mod parts;
-mod session;
-pub mod theorems;
 mod writers;
 
 ghost use mathlib.Core.Path.{_≡_};

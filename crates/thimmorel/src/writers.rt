@@ -1,44 +1,12 @@
-// The writers of the two headers, for C.
-use crate::install::count;
-use image::Version;
-use writer::Firmware;
+// The writers of the two headers, for C (specification, 8).
+use abi::written::firmware_numbers;
+use abi::written::tell;
 use writer::Vendor;
-use writer::Written;
 use writer::write_firmware;
 use writer::write_vendor;
 ghost use mathlib.Core.Path.{_≡_};
 ghost use Rattle.writer.specs.Writers.{numberOf};
-ghost use Rattle.thimmorel.specs.Headers.{writtenWord, vendorNumbers, vendorAnswer, vendorOutput, versionOf, firmwareNumbers, firmwareAnswer, firmwareOutput};
-
-fn number_of(answer: Written) -> u32
-    ensures { λ r. ⌜ r ≡ numberOf answer ⌝ }
-{
-    match answer {
-        Written::Header(_) => 0,
-        Written::Not(number) => number,
-    }
-}
-
-fn written_word(answer: Written, old: [u32; 1]) -> [u32; 1]
-    ensures { λ r. ⌜ r ≡ writtenWord answer old ⌝ }
-{
-    match answer {
-        Written::Header(len) => count(len),
-        Written::Not(_) => old,
-    }
-}
-
-// The answer's number comes back, and the header's length goes to written, which a refusal leaves as
-// it was.
-fn tell(answer: Written, written: &mut [u32; 1]) -> u32
-    ensures { λ r. ⌜ r ≡ numberOf answer ⌝ }
-    ensures { λ r. ⌜ now (written .exit) ≡ writtenWord answer (now (written .entry)) ⌝ }
-{
-    let old = *written;
-    let word = written_word(answer, old);
-    *written = word;
-    number_of(answer)
-}
+ghost use Rattle.abi.specs.Headers.{writtenWord, vendorNumbers, vendorAnswer, vendorOutput, firmwareNumbers, firmwareAnswer, firmwareOutput};
 
 // Writes a vendor header to the start of out.
 #[no_mangle]
@@ -71,30 +39,6 @@ pub extern "C" fn thimmorel_write_vendor(
         mask: sigmask,
     };
     tell(write_vendor(f, keys, string, picture, sig, out), written)
-}
-
-fn version_of(b: [u8; 4]) -> Version
-    ensures { λ r. ⌜ r ≡ versionOf b ⌝ }
-{
-    Version {
-        major: b[0],
-        minor: b[1],
-        patch: b[2],
-        build: b[3],
-    }
-}
-
-fn firmware_numbers(expiry: u32, version: [u8; 4], fix: [u8; 4], sigmask: u8) -> Firmware
-    ensures { λ r. ⌜ r ≡ firmwareNumbers expiry version fix sigmask ⌝ }
-{
-    let v = version_of(version);
-    let f = version_of(fix);
-    Firmware {
-        expiry,
-        version: v,
-        fix: f,
-        mask: sigmask,
-    }
 }
 
 // Writes a firmware header to the start of out, for code that stands behind a vendor header of v

@@ -1,5 +1,10 @@
--- `image::picture` meets its contract: by cases of the answer; `picture_area` promises the part.
+-- `image::picture` meets its contract: `area` promises the bytes of the span.
+use denote.Ref.{now}
+use mathlib.Core.Path.{ap, _∙_}
 use borrow.Author.Needs.{needs}
+use Rattle.octets.specs.Read.{spanOf}
+use Rattle.octets.specs.declared.Span.{Span}
+use Rattle.image.specs.Parts.{whenAccepted}
 use Rattle.image.proofs.picture.Statement.{statement}
 use Rattle.image.proofs.picture.Tie as tie
 
@@ -7,9 +12,8 @@ pub picture-spec : {M : Type 1} → statement M
 picture-spec =
     tie.close
     (tie.spec
-    (λ c. search needs)
-    (λ c. search needs)
-    (λ c. search needs)
     (λ c κs. search needs)
-    (λ c. search needs)
-    (λ c. cc))
+    (λ c κs. search needs)
+    (λ c.
+    let a = c .before .before .before .args in
+    c .area .ensures ∙ ap (λ (x : Span). whenAccepted (a .answer) (spanOf x (now (a .b)))) (c .before .picture-span .ensures)))

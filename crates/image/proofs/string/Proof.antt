@@ -1,5 +1,10 @@
--- `image::string` meets its contract: by cases of the answer; `string_area` promises the part.
+-- `image::string` meets its contract: `area` promises the bytes of the span.
+use denote.Ref.{now}
+use mathlib.Core.Path.{ap, _∙_}
 use borrow.Author.Needs.{needs}
+use Rattle.octets.specs.Read.{spanOf}
+use Rattle.octets.specs.declared.Span.{Span}
+use Rattle.image.specs.Parts.{whenAccepted}
 use Rattle.image.proofs.string.Statement.{statement}
 use Rattle.image.proofs.string.Tie as tie
 
@@ -7,9 +12,8 @@ pub string-spec : {M : Type 1} → statement M
 string-spec =
     tie.close
     (tie.spec
-    (λ c. search needs)
-    (λ c. search needs)
-    (λ c. search needs)
     (λ c κs. search needs)
-    (λ c. search needs)
-    (λ c. cc))
+    (λ c κs. search needs)
+    (λ c.
+    let a = c .before .before .before .args in
+    c .area .ensures ∙ ap (λ (x : Span). whenAccepted (a .answer) (spanOf x (now (a .b)))) (c .before .string-span .ensures)))

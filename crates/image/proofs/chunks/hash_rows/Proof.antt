@@ -2,9 +2,10 @@
 use denote.Ref.{now}
 use borrow.Author.Needs.{needs}
 use native.Mathlib.Omega.{arith}
-use mathlib.Core.Path.{ap, ap₂, _∙_}
-use Prim.Native.Nat.{ℕ, _-_}
-use Rattle.octets.specs.Read.{between}
+use mathlib.Core.Path.{ap, _∙_}
+use Prim.Native.Nat.{_-_}
+use Rattle.octets.specs.Read.{spanOf}
+use Rattle.octets.specs.declared.Span.{Span}
 use Rattle.header.specs.Layout.{firstRoom}
 use Rattle.image.proofs.Hashes.{Reached, reached-first, room-small, start-small, reached-end, reached-next, reached-wrong}
 use Rattle.image.proofs.chunks.hash_rows.Statement.{statement}
@@ -19,10 +20,10 @@ abbrev μ-loop : tie.MeasureT-loop
 loop-holds : tie.Need-loop-holds Inv-loop μ-loop
 loop-holds c =
     let s = c .before .before in
-    let b = now (s .before .before .before .before .before .args .b) in
+    let b = now (s .before .before .before .before .args .b) in
     reached-first b _ _ _
-    (s .before .before .before .hash-table .ensures)
-    (s .part .ensures ∙ ap₂ (λ (x y : ℕ). between x y b) (s .before .before .code-start .ensures) (s .before .image-len .ensures))
+    (s .before .before .hash-table .ensures)
+    (s .span-of .ensures ∙ ap (λ (x : Span). spanOf x b) (s .before .code-span .ensures))
     (c .first-room .ensures ∙ ap firstRoom (c .before .vendor-len .ensures))
 
 add-next : tie.Need-add-next Inv-loop μ-loop
@@ -34,13 +35,13 @@ returns : tie.Need-returns Inv-loop μ-loop
 returns c =
     let p = c .before .before .before in
     let l = p .before .before .before .before .before .loop in
-    reached-wrong (l .inv) (omega arith) (p .before .before .before .room-of .ensures) (p .before .part2 .ensures) (p .chunk-row .ensures) (c .before .found .given .1)
+    reached-wrong (l .inv) (omega arith) (p .before .before .before .room-of .ensures) (p .before .part .ensures) (p .chunk-row .ensures) (c .before .found .given .1)
 
 loop-again : tie.Need-loop-again Inv-loop μ-loop
 loop-again c =
     let p = c .before .before in
     let l = p .before .before .before .before .before .loop in
-    reached-next (l .inv) (omega arith) (p .before .before .before .room-of .ensures) (p .before .part2 .ensures) (p .chunk-row .ensures) (c .enum-told .given .1)
+    reached-next (l .inv) (omega arith) (p .before .before .before .room-of .ensures) (p .before .part .ensures) (p .chunk-row .ensures) (c .enum-told .given .1)
 
 pub hash-rows-spec : {M : Type 1} → statement M
 hash-rows-spec =
@@ -48,7 +49,6 @@ hash-rows-spec =
     (tie.spec
     Inv-loop
     μ-loop
-    (λ c κs. search needs)
     (λ c κs. search needs)
     (λ c κs. search needs)
     (λ c κs. search needs)

@@ -1,7 +1,20 @@
 -- What the calls ensure: the answer of the check, and what `tell` leaves.
+use denote.Ref.{now}
+use mathlib.Core.Path.{ap, _∙_}
+use Rattle.image.specs.Answer.{numberOf, whereOf}
+use Rattle.image.specs.declared.Answer.{Answer}
+use Rattle.abi.specs.Words.{imageWords}
 use borrow.Author.Needs.{needs}
 use Rattle.thimmorel.proofs.check.thimmorel_check_file.Statement.{statement}
 use Rattle.thimmorel.proofs.check.thimmorel_check_file.Tie as tie
+
+returns : tie.Need-returns
+returns c =
+    let k = c .before .before .before in
+    let image = now (k .before .before .args .image) in
+    let e = k .check-file .ensures in
+    let t = c .tell .ensures in
+    (t .0 ∙ ap numberOf e, (t .1 .0 ∙ ap whereOf e, t .1 .1 ∙ ap (λ (x : Answer). imageWords x image) e))
 
 pub thimmorel-check-file-spec : {M : Type 1} → statement M
 thimmorel-check-file-spec =
@@ -9,4 +22,4 @@ thimmorel-check-file-spec =
     (tie.spec
     (λ c κs. search needs)
     (λ c κs. search needs)
-    (λ c. ((cc), ((cc), (cc)))))
+    returns)

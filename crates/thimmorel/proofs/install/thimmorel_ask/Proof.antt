@@ -9,7 +9,7 @@ use Rattle.installer.specs.Record.{full}
 use Rattle.installer.specs.Calls.{askOf}
 use Rattle.installer.specs.declared.Session.{Session}
 use Rattle.installer.specs.declared.Asked.{Asked}
-use Rattle.thimmorel.specs.Session.{sessionOf, askedWords, askedDigests}
+use Rattle.abi.specs.Session.{sessionOf, askedWords, askedDigests}
 use Rattle.thimmorel.proofs.install.thimmorel_ask.Statement.{statement}
 use Rattle.thimmorel.proofs.install.thimmorel_ask.Tie as tie
 

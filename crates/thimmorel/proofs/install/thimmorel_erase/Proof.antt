@@ -1,7 +1,26 @@
 -- What the calls ensure: the record that the words hold, the turn and the slot of `erase`, and what `tell` leaves.
+use denote.Ref.{now}
+use mathlib.Core.Path.{ap, _∙_}
+use Rattle.installer.specs.Calls.{eraseOf, eraseSlot}
+use Rattle.installer.specs.Reply.{numberOf}
+use Rattle.installer.specs.declared.Session.{Session}
+use Rattle.installer.specs.declared.Turn.{Turn}
+use Rattle.abi.specs.Session.{wordsAfter}
 use borrow.Author.Needs.{needs}
 use Rattle.thimmorel.proofs.install.thimmorel_erase.Statement.{statement}
 use Rattle.thimmorel.proofs.install.thimmorel_erase.Tie as tie
+
+returns : tie.Need-returns
+returns c =
+    let k = c .before .before .before .before in
+    let s = k .before .before in
+    let a = s .before .before .before .args in
+    let e = s .session-of .ensures in
+    let turn = k .erase .ensures .0 ∙ ap (λ (x : Session). eraseOf x (now (a .slot))) e in
+    let t = c .tell .ensures in (
+      t .0 ∙ ap (λ (x : Turn). numberOf (x .reply)) turn,
+      (t .1 ∙ ap (λ (x : Turn). wordsAfter x (now (a .«record»))) turn, k .erase .ensures .1 ∙ ap (λ (x : Session). eraseSlot x (now (a .slot))) e),
+    )
 
 pub thimmorel-erase-spec : {M : Type 1} → statement M
 thimmorel-erase-spec =
@@ -11,4 +30,4 @@ thimmorel-erase-spec =
     (λ c κs. search needs)
     (λ c κs. search needs)
     (λ c. search needs)
-    (λ c. ((cc), ((cc), (cc)))))
+    returns)

@@ -1,7 +1,32 @@
--- What the calls ensure: the record that the words hold, the turn and the slot of `fill`, the count, and what `tell` leaves.
+-- What the calls ensure: the record that the words hold, the turn and the slot of `fill`, and what `tell_filled` leaves.
+use denote.Ref.{now}
+use mathlib.Core.Path.{ap, _∙_}
+use Rattle.installer.specs.Calls.{fillOf, fillSlot}
+use Rattle.installer.specs.Reply.{numberOf}
+use Rattle.installer.specs.declared.Session.{Session}
+use Rattle.installer.specs.declared.Turn.{Turn}
+use Rattle.abi.specs.Session.{wordsAfter, takenWord}
 use borrow.Author.Needs.{needs}
 use Rattle.thimmorel.proofs.install.thimmorel_fill.Statement.{statement}
 use Rattle.thimmorel.proofs.install.thimmorel_fill.Tie as tie
+
+returns : tie.Need-returns
+returns c =
+    let k = c .before .before .before .before .before in
+    let s = k .before .before in
+    let a = s .before .before .before .before .args in
+    let e = s .session-of .ensures in
+    let turn = k .fill .ensures .0 ∙ ap (λ (x : Session). fillOf x (now (a .piece)) (now (a .slot))) e in
+    let t = c .tell-filled .ensures in (
+      t .0 ∙ ap (λ (x : Turn). numberOf (x .reply)) turn,
+      (
+        t .1 .0 ∙ ap (λ (x : Turn). wordsAfter x (now (a .«record»))) turn,
+        (
+          k .fill .ensures .1 ∙ ap (λ (x : Session). fillSlot x (now (a .piece)) (now (a .slot))) e,
+          t .1 .1 ∙ ap (λ (x : Turn). takenWord (x .reply) (now (a .taken))) turn,
+        ),
+      ),
+    )
 
 pub thimmorel-fill-spec : {M : Type 1} → statement M
 thimmorel-fill-spec =
@@ -10,6 +35,5 @@ thimmorel-fill-spec =
     (λ c κs. search needs)
     (λ c κs. search needs)
     (λ c κs. search needs)
-    (λ c κs. search needs)
     (λ c. search needs)
-    (λ c. ((cc), ((cc), ((cc), (cc))))))
+    returns)

@@ -1,7 +1,20 @@
 -- What the calls ensure: the answer and the output of `write_vendor`, and what `tell` leaves.
+use denote.Ref.{now}
+use mathlib.Core.Path.{ap, _∙_}
+use Rattle.writer.specs.Writers.{numberOf}
+use Rattle.writer.specs.declared.Written.{Written}
+use Rattle.abi.specs.Headers.{writtenWord}
 use borrow.Author.Needs.{needs}
 use Rattle.thimmorel.proofs.writers.thimmorel_write_vendor.Statement.{statement}
 use Rattle.thimmorel.proofs.writers.thimmorel_write_vendor.Tie as tie
+
+returns : tie.Need-returns
+returns c =
+    let k = c .before .before .before .before in
+    let a = k .before .before .before .before .before .before .args in
+    let w = k .write-vendor .ensures in
+    let t = c .tell .ensures in
+    (t .0 ∙ ap numberOf (w .0), (w .1, t .1 ∙ ap (λ (x : Written). writtenWord x (now (a .written))) (w .0)))
 
 pub thimmorel-write-vendor-spec : {M : Type 1} → statement M
 thimmorel-write-vendor-spec =
@@ -10,4 +23,4 @@ thimmorel-write-vendor-spec =
     (λ c κs. search needs)
     (λ c κs. search needs)
     (λ c. search needs)
-    (λ c. ((cc), ((cc), (cc)))))
+    returns)

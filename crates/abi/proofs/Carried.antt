@@ -1,0 +1,227 @@
+-- The words carry the record: a record whose numbers are below 2 ^ 32 and whose two words are four bytes each is read back from its words,
+-- and every record that a call gives is such a one. Assumes nothing.
+use mathlib.Core.Path.{_≡_, refl, ap, _∙_}
+use mathlib.Core.List.{List, [], _∷_, _++_}
+use mathlib.Core.Bool.{Bool, true, false, not, cond, _&&_}
+use Prim.Native.Nat.{ℕ, zero, suc, _+_, _-_, _%_, _≤_, _<_}
+use native.Mathlib.Omega.{arith}
+use native.Mathlib.Nat.{mod-eq-of-lt}
+use lib.Dec.{eqb, leb}
+use lib.ListN.{length, getD, take, drop}
+use lib.Seq.{take-all, getD-drop, paste, length-paste}
+use borrow.Author.Tests.{leb-true}
+use Rattle.octets.specs.Read.{u32At, between, bytesAt}
+use Rattle.octets.specs.Rounding.{multipleOf}
+use Rattle.octets.specs.Put.{le32}
+use Rattle.octets.proofs.Laws.{and-right, bytes-between}
+use Rattle.octets.proofs.Numbers.{bytes-of}
+use Rattle.flash.specs.Flash.{startsErased}
+use Rattle.image.specs.Check.{checkFile}
+use Rattle.image.specs.declared.Answer.{Answer}
+use Rattle.image.specs.declared.Answer.the-variants.{Accepted, Rejected}
+use Rattle.installer.specs.Record.{slotLenRight, fileLenRight, pagesOf, sound, erasing, filling, full, newRecord, withPage, withBytes, over}
+use Rattle.installer.specs.Calls.{beginOf, eraseOf, takenBy, joined, wordAt, inFirstWord, filled, fileIn, closeBy}
+use Rattle.installer.specs.declared.Session.{Session}
+use Rattle.installer.proofs.Facts.{passed, passed-full}
+use Rattle.abi.specs.Session.{sessionOf, wordsOf, wordsAfter}
+use Rattle.abi.specs.Carried.{WordsCarryTheRecord}
+
+-- ---- words of four bytes
+
+-- every byte is below 256
+abbrev Bytes : List ℕ → Type 0
+Bytes x = (i : ℕ) → getD x i 0 < 256
+
+-- four bytes
+record Word (x : List ℕ) : Type 0 where
+  pub four : length x ≡ 4
+  pub bytes : Bytes x
+
+-- each byte of a number is below 256
+number-bytes : (x : ℕ) → Bytes (le32 x)
+number-bytes x zero = omega arith
+number-bytes x (suc zero) = omega arith
+number-bytes x (suc (suc zero)) = omega arith
+number-bytes x (suc (suc (suc zero))) = omega arith
+number-bytes x (suc (suc (suc (suc i)))) = omega arith
+
+-- the bytes of a number are a word
+number-word : (x : ℕ) → Word (le32 x)
+number-word x = record { four = refl; bytes = number-bytes x }
+
+-- bytes behind bytes are bytes
+append-bytes : (x y : List ℕ) → Bytes x → Bytes y → Bytes (x ++ y)
+append-bytes [] y f g i = g i
+append-bytes (a ∷ x) y f g zero = f zero
+append-bytes (a ∷ x) y f g (suc i) = append-bytes x y (λ j. f (suc j)) g i
+
+-- the first of some bytes are bytes
+take-bytes : (n : ℕ) (x : List ℕ) → Bytes x → Bytes (take n x)
+take-bytes zero x f i = omega arith
+take-bytes (suc n) [] f i = omega arith
+take-bytes (suc n) (a ∷ x) f zero = f zero
+take-bytes (suc n) (a ∷ x) f (suc i) = take-bytes n x (λ j. f (suc j)) i
+
+-- the last of some bytes are bytes
+drop-bytes : (n : ℕ) (x : List ℕ) → Bytes x → Bytes (drop n x)
+drop-bytes n x f i = rw (getD-drop n x i 0) (f (n + i))
+
+-- a word with bytes of a piece in it is a word
+paste-word : (x : List ℕ) (at : ℕ) (piece : List ℕ) (k : ℕ) → Word x → Bytes piece → at + k ≤ 4 → k ≤ length piece → Word (paste x at piece k)
+paste-word x at piece k w f h g =
+    record {
+      four = length-paste x at piece k (omega (arith, w .four)) g ∙ w .four;
+      bytes =
+          append-bytes (take at x ++ take k piece) (drop (at + k) x)
+          (append-bytes (take at x) (take k piece) (take-bytes at x (w .bytes)) (take-bytes k piece f))
+          (drop-bytes (at + k) x (w .bytes));
+    }
+
+-- ---- a record is read back from its words
+
+-- a word is the bytes of its number
+word-back : (x : List ℕ) → Word x → le32 (u32At x 0) ≡ x
+unfolding u32At bytesAt between
+word-back x w =
+    bytes-of (getD x 0 0) (getD x 1 0) (getD x 2 0) (getD x 3 0) (w .bytes 0) (w .bytes 1) (w .bytes 2) (w .bytes 3)
+    ∙ bytes-between 4 x 0 (omega (arith, w .four))
+    ∙ take-all 4 x (omega (arith, w .four))
+
+-- 1 is a session that is live, and 0 one that is over
+live-back : (b : Bool) → eqb (cond b 1 0) 1 ≡ b
+live-back true = refl
+live-back false = refl
+
+-- each number of a record is below 2 ^ 32
+record Fits (t : Session) : Type 0 where
+  pub slot : t .slot < 4294967296
+  pub file : t .file < 4294967296
+  pub pages : t .pages < 4294967296
+  pub taken : t .taken < 4294967296
+  pub operations : t .operations < 4294967296
+
+-- a record that fits is read back
+read-back : (t : Session) → Fits t → Word (t .first) → Word (t .held) → sessionOf (wordsOf t) ≡ t
+unfolding sessionOf wordsOf
+read-back t h first held =
+    rw (
+      live-back (t .live),
+      mod-eq-of-lt (h .slot),
+      mod-eq-of-lt (h .file),
+      mod-eq-of-lt (h .pages),
+      mod-eq-of-lt (h .taken),
+      mod-eq-of-lt (h .operations),
+      word-back (t .first) first,
+      word-back (t .held) held,
+    )
+
+-- ---- begin
+
+-- a new record is read back
+new-back : (live : Bool) (n f : ℕ) → n ≤ 2097152 → f ≤ n → sessionOf (wordsOf (newRecord live n f)) ≡ newRecord live n f
+new-back live n f h g = read-back (newRecord live n f) (omega arith) (number-word 0) (number-word 0)
+
+-- a slot's length that begin takes is at most 2,097,152
+slot-most : (n : ℕ) → slotLenRight n ≡ true → n ≤ 2097152
+unfolding slotLenRight
+slot-most n e = leb-true n 2097152 (and-right (leb 4096 n) (leb n 2097152) (and-right (multipleOf 4096 n) (leb 4096 n && leb n 2097152) e))
+
+-- a file's length that begin takes is at most the slot's
+file-most : (n f : ℕ) → fileLenRight n f ≡ true → f ≤ n
+unfolding fileLenRight
+file-most n f e = leb-true f n (and-right (leb 1540 f) (leb f n) (and-right (multipleOf 4 f) (leb 1540 f && leb f n) e))
+
+-- the words that begin leaves hold the record that it gave
+begin-carried : (n f : ℕ) → sessionOf (wordsOf (beginOf n f .session)) ≡ beginOf n f .session
+unfolding beginOf
+begin-carried n f = go (slotLenRight n) refl (fileLenRight n f) refl
+  where
+    go : (a : Bool) → slotLenRight n ≡ a → (b : Bool) → fileLenRight n f ≡ b → sessionOf (wordsOf (beginOf n f .session)) ≡ beginOf n f .session
+    go true p true q = rw (p, q) (new-back true n f (slot-most n p) (file-most n f q))
+    go true p false q = rw (p, q) (new-back false 0 0 (omega arith) (omega arith))
+    go false p b q = rw p (new-back false 0 0 (omega arith) (omega arith))
+
+-- ---- erase, fill and close, on the record that words hold
+
+-- the first word of a record that words hold is a word
+first-word : (w : List ℕ) → Word (sessionOf w .first)
+unfolding sessionOf
+first-word w = number-word (getD w 6 0)
+
+-- and so is its word in progress
+held-word : (w : List ℕ) → Word (sessionOf w .held)
+unfolding sessionOf
+held-word w = number-word (getD w 7 0)
+
+-- with bytes of a piece in it too
+joined-word : (w piece : List ℕ) → Bytes piece → Word (joined (sessionOf w) piece)
+joined-word w piece f =
+    let s : Session = sessionOf w in
+    paste-word (s .held) (s .taken % 4) piece (takenBy s piece) (held-word w) f (omega arith) (omega arith)
+
+module _ (w slot : List ℕ) where
+  abbrev s : Session
+  s = sessionOf w
+
+  abbrev n : ℕ
+  n = length slot
+
+  -- the words that erase leaves hold the record that it gave
+  erase-carried : sessionOf (wordsAfter (eraseOf s slot) w) ≡ eraseOf s slot .session
+  erase-carried = go (erasing s n) refl
+    where
+      go : (a : Bool) → erasing s n ≡ a → sessionOf (wordsAfter (eraseOf s slot) w) ≡ eraseOf s slot .session
+      go true p =
+          let f = passed s n (sound s n) (leb (s .pages + 1) (pagesOf n)) refl (ap not p) in
+          let more : s .pages + 1 ≤ pagesOf n = leb-true (s .pages + 1) (pagesOf n) (f .1) in
+          rw p (read-back (withPage s) (omega (arith, f .0)) (first-word w) (held-word w))
+      go false p = rw p
+
+  -- a record with k bytes more, no more than the file has, is read back
+  bytes-back : (k : ℕ) (held first : List ℕ) (stored : ℕ) → filling s n ≡ true → k ≤ s .file - s .taken → stored ≤ 1 → Word held → Word first
+      → sessionOf (wordsOf (withBytes s k held first stored)) ≡ withBytes s k held first stored
+  bytes-back k held first stored p h o x y =
+      let f = passed s n (sound s n) (eqb (s .pages) (pagesOf n)) refl (ap not p) in
+      read-back (withBytes s k held first stored) (omega (arith, f .0)) y x
+
+  -- the words that fill leaves hold the record that it gave, where it takes k bytes, which make the word x
+  fill-carried : (k : ℕ) (x : List ℕ) → k ≤ s .file - s .taken → Word x → sessionOf (wordsAfter (filled s k x slot) w) ≡ filled s k x slot .session
+  fill-carried k x h v =
+      go (filling s n) refl (eqb (s .taken % 4 + k) 4) refl (inFirstWord s) refl (startsErased (drop (wordAt s) slot)) refl
+    where
+      go : (a : Bool) → filling s n ≡ a → (b : Bool) → eqb (s .taken % 4 + k) 4 ≡ b → (c : Bool) → inFirstWord s ≡ c
+          → (d : Bool) → startsErased (drop (wordAt s) slot) ≡ d → sessionOf (wordsAfter (filled s k x slot) w) ≡ filled s k x slot .session
+      go false p b q c r d e = rw p
+      go true p false q c r d e = rw (p, q) (bytes-back k x (s .first) 0 p h (omega arith) v (first-word w))
+      go true p true q true r d e = rw (p, q, r) (bytes-back k x x 0 p h (omega arith) v v)
+      go true p true q false r true e = rw (p, q, r, e) (bytes-back k x (s .first) 1 p h (omega arith) v (first-word w))
+      go true p true q false r false e = rw (p, q, r, e)
+
+  -- a session that is over, after at most one operation more, is read back
+  over-back : (operations : ℕ) → full s n ≡ true → operations ≤ s .operations + 1 → sessionOf (wordsOf (over s operations)) ≡ over s operations
+  over-back operations p h =
+      let f = passed-full s n (full s n) refl (ap not p) in
+      read-back (over s operations) (omega (arith, f .0)) (first-word w) (held-word w)
+
+  -- the words that close leaves hold the record that it gave, whatever the check answers
+  close-carried : (answer : Answer) → sessionOf (wordsAfter (closeBy s answer slot) w) ≡ closeBy s answer slot .session
+  close-carried answer = go answer (full s n) refl (startsErased slot) refl
+    where
+      go : (answer : Answer) (a : Bool) → full s n ≡ a → (b : Bool) → startsErased slot ≡ b
+          → sessionOf (wordsAfter (closeBy s answer slot) w) ≡ closeBy s answer slot .session
+      go (Accepted i) true p true q = rw (p, q) (over-back (s .operations + 1) p (omega arith))
+      go (Rejected r) true p true q = rw (p, q) (over-back (s .operations) p (omega arith))
+      go answer true p false q = rw (p, q)
+      go answer false p b q = rw p
+
+-- ---- all of them
+
+pub words-carry-the-record : WordsCarryTheRecord
+words-carry-the-record =
+    record {
+      begun = begin-carried;
+      erased = erase-carried;
+      filled = λ w piece slot f.
+          fill-carried w slot (takenBy (sessionOf w) piece) (joined (sessionOf w) piece) (omega arith) (joined-word w piece f);
+      closed = λ w slot given. close-carried w slot (checkFile (fileIn (sessionOf w) slot) given);
+    }

@@ -1,0 +1,53 @@
+// A session's record in sixteen words (specification, 10.2).
+use crate::number::bytes_of;
+use crate::number::flag;
+use crate::number::low;
+use crate::number::whole;
+use installer::Session;
+use octets::u32_at;
+ghost use mathlib.Core.Path.{_≡_};
+ghost use Rattle.abi.specs.Session.{sessionOf, wordsOf};
+
+// The record that words hold.
+pub fn session_of(w: [u32; 16]) -> Session
+    ensures { λ r. ⌜ r ≡ sessionOf w ⌝ }
+{
+    let first = bytes_of(w[6]);
+    let held = bytes_of(w[7]);
+    Session {
+        live: w[0] == 1,
+        slot: whole(w[1]),
+        file: whole(w[2]),
+        pages: whole(w[3]),
+        taken: whole(w[4]),
+        operations: whole(w[5]),
+        first,
+        held,
+    }
+}
+
+// A record as words.
+pub fn words_of(s: Session) -> [u32; 16]
+    ensures { λ r. ⌜ r ≡ wordsOf s ⌝ }
+{
+    let first = s.first;
+    let held = s.held;
+    [
+        flag(s.live),
+        low(s.slot),
+        low(s.file),
+        low(s.pages),
+        low(s.taken),
+        low(s.operations),
+        u32_at(&first, 0),
+        u32_at(&held, 0),
+        0,
+        0,
+        0,
+        0,
+        0,
+        0,
+        0,
+        0,
+    ]
+}

@@ -1,2 +1,0 @@
--- The laws that the proofs of thimmorel cite.
-pub mod Carried

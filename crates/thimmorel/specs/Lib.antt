@@ -1,5 +1,0 @@
--- What the contracts of the exported calls cite.
-pub mod Words
-pub mod Session
-pub mod Headers
-pub mod Carried

@@ -1,7 +1,0 @@
-// Demand 3 reaches C: the words of a session carry its record from call to call.
-ghost use Rattle.thimmorel.specs.Carried.{WordsCarryTheRecord};
-
-// What a call leaves in the words is the record that it gave.
-pub fn words_carry_the_record()
-    ensures { λ r. ⌜ WordsCarryTheRecord ⌝ }
-{}
