@@ -1,14 +1,18 @@
--- What is shown of the checks: the two laws on which the installer rests.
+-- What is shown of the checks: the two laws on which the installer rests, and what the parts of an accepted image are.
 -- Assumes nothing.
-use Prim.Native.Nat.{ℕ}
+use Prim.Native.Nat.{ℕ, _+_, _-_, _*_}
 use mathlib.Core.Path.{_≡_}
 use mathlib.Core.List.{List, _++_}
-use lib.ListN.{take, replicate}
+use lib.ListN.{length, take, drop, replicate}
+use Rattle.header.specs.Layout.{keyCount, stringLen, pictureStart}
 use Rattle.header.specs.Table.{refusal}
 use Rattle.header.specs.declared.Inputs.{Inputs}
 use Rattle.image.specs.declared.Image.{Image}
+use Rattle.image.specs.declared.Answer.{Answer}
 use Rattle.image.specs.declared.Answer.the-variants.{Accepted, Rejected}
+use Rattle.image.specs.Chunks.{codeOf}
 use Rattle.image.specs.Check.{checkFile, checkSlot}
+use Rattle.image.specs.Parts.{stringOf, pictureOf, whenAccepted}
 
 -- a slot whose first word is erased is refused with number 1, for any inputs
 abbrev pub ErasedWordRefused : Type 0
