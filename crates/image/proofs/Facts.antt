@@ -1,6 +1,6 @@
 -- What an acceptance says: each group of rows passes, the hashes are the chunks', and the image is the bytes'; and the other way round.
 -- Assumes nothing.
-use Prim.Native.Nat.{ℕ, _+_, _-_, _≤_}
+use Prim.Native.Nat.{ℕ, _+_, _≤_}
 use mathlib.Core.Path.{_≡_, refl, sym, ap, ap₂, _∙_}
 use mathlib.Core.List.{List}
 use mathlib.Core.Bool.{Bool, true, not}
@@ -157,13 +157,14 @@ sound-file-accepted b given h l e =
 
 -- ---- parts
 
-pub length-part : (b : List ℕ) (a e : ℕ) → e ≤ length b → length (between a e b) ≡ e - a
+-- n bytes, where there are so many
+pub length-part : (b : List ℕ) (a e n : ℕ) → e ≡ a + n → e ≤ length b → length (between a e b) ≡ n
 unfolding between
-length-part b a e h = simp (length-take, length-drop) (omega arith)
+length-part b a e n h g = simp (length-take, length-drop) (omega arith)
 
 -- the code has codelen bytes where the image is held whole, and is all that follows the headers of a file
 pub code-length : (b : List ℕ) → imageLen b ≤ length b → length (codeOf b) ≡ codeLen b
-code-length b h = let l = length-part b (codeStart b) (imageLen b) h in omega arith
+code-length b h = length-part b (codeStart b) (imageLen b) (codeLen b) refl h
 
 pub code-is-rest : (b : List ℕ) → length b ≡ imageLen b → codeOf b ≡ drop (codeStart b) b
 code-is-rest b e = between-end (codeStart b) (imageLen b) b (omega arith)

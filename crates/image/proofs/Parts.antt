@@ -1,27 +1,24 @@
 -- The parts that a check hands back of an accepted image stand where the fields say, and the headers hold them whole.
 -- Assumes nothing.
-use Prim.Native.Nat.{ℕ, _+_, _-_, _*_, _≤_}
+use Prim.Native.Nat.{ℕ, _+_, _-_, _*_}
 use mathlib.Core.Path.{_≡_, refl, subst}
 use mathlib.Core.List.{List}
 use native.Mathlib.Omega.{arith}
-use lib.ListN.{length, take, drop}
+use lib.ListN.{take, drop}
 use Rattle.octets.specs.Read.{between}
 use Rattle.header.specs.Layout.{vendorLen, codeLen, keyCount, stringLen, stringStart, stringEnd, pictureStart, maskAt, codeStart, imageLen}
 use Rattle.image.specs.Answer.{imageOf}
 use Rattle.image.specs.Theorems.{PartsStand, AcceptedParts}
 use Rattle.image.specs.declared.Image.{Image}
 use Rattle.image.specs.declared.Answer.the-variants.{Accepted}
-use Rattle.image.proofs.Facts.{Sound, sound, file-rows-pass, file-told, slot-rows-pass, slot-told, length-part}
+use Rattle.image.proofs.Facts.{Sound, sound, file-rows-pass, file-told, slot-rows-pass, slot-told, length-part, code-length}
 
 -- n bytes from a on
 part-taken : (b : List ℕ) (a n s e : ℕ) → s ≡ a → e ≡ a + n → between s e b ≡ take n (drop a b)
 unfolding between
 part-taken b a n s e h g = let d : e - s ≡ n = omega arith in rw (d, h)
 
-part-long : (b : List ℕ) (s e n : ℕ) → e ≡ s + n → e ≤ length b → length (between s e b) ≡ n
-part-long b s e n h g = let l = length-part b s e g in omega arith
-
-parts-stand : (b : List ℕ) → Sound b → PartsStand b (Accepted (imageOf b)) (imageOf b)
+pub parts-stand : (b : List ℕ) → Sound b → PartsStand b (Accepted (imageOf b)) (imageOf b)
 unfolding imageOf
 parts-stand b k =
     let n = keyCount b in
@@ -29,11 +26,11 @@ parts-stand b k =
     let v = vendorLen b in
     record {
       string = part-taken b (33 + 32 * n) s (stringStart n) (stringEnd n s) (omega arith) (omega arith);
-      stringLong = part-long b (stringStart n) (stringEnd n s) s refl (omega (arith, k .vendor .room, k .vendor .held));
+      stringLong = length-part b (stringStart n) (stringEnd n s) s refl (omega (arith, k .vendor .room, k .vendor .held));
       picture = part-taken b (pictureStart n s) (v - 65 - pictureStart n s) (pictureStart n s) (maskAt v) refl (omega (arith, k .vendor .room));
-      pictureLong = part-long b (pictureStart n s) (maskAt v) (v - 65 - pictureStart n s) (omega (arith, k .vendor .room)) (omega (arith, k .vendor .held));
+      pictureLong = length-part b (pictureStart n s) (maskAt v) (v - 65 - pictureStart n s) (omega (arith, k .vendor .room)) (omega (arith, k .vendor .held));
       code = part-taken b (v + 1024) (codeLen b) (codeStart b) (imageLen b) refl refl;
-      codeLong = part-long b (codeStart b) (imageLen b) (codeLen b) refl (k .held);
+      codeLong = code-length b (k .held);
     }
 
 -- of the image that is told

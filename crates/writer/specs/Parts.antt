@@ -1,24 +1,23 @@
--- An image's parts: what the two writers take, the file that they make of them, and an image taken apart.
+-- An image's parts: what the two writers take, the file that they leave of them, and an image taken apart.
 -- Assumes nothing.
 use Prim.Native.Nat.{ℕ, _+_, _-_, _<_}
 use mathlib.Core.Path.{_≡_}
 use mathlib.Core.List.{List, _++_}
 use mathlib.Core.Bool.{false}
-use lib.ListN.{length, getD}
+use lib.ListN.{length, getD, take}
 use Rattle.octets.specs.Read.{between}
 use Rattle.header.specs.Layout.{vendorLen, vendorExpiry, signersNeeded, keyCount, vtrust, stringLenAt, vendorMask, firmwareExpiry, firmwareMask}
 use Rattle.header.specs.Steps.{keysImpossible, expired, maskWrong}
-use Rattle.header.specs.Table.{firstFailing}
 use Rattle.header.specs.declared.Inputs.{Inputs}
-use Rattle.header.specs.declared.Outcome.the-variants.{Pass}
 use Rattle.image.specs.Answer.{versionAt}
 use Rattle.image.specs.Chunks.{codeOf}
-use Rattle.image.specs.Parts.{stringOf, pictureOf}
-use Rattle.image.specs.declared.Version.{Version}
-use Rattle.writer.specs.Vendor.{vendorSize, vendorHeader, vendorRefusals}
-use Rattle.writer.specs.Firmware.{firmwareHeader, firmwareRefusals}
+use Rattle.image.specs.Parts.{stringOf, pictureOf, whenAccepted}
+use Rattle.image.specs.declared.Answer.{Answer}
+use Rattle.writer.specs.Vendor.{vendorAnswer, vendorOutput}
+use Rattle.writer.specs.Firmware.{firmwareAnswer, firmwareOutput}
 use Rattle.writer.specs.declared.Vendor.{Vendor}
 use Rattle.writer.specs.declared.Firmware.{Firmware}
+use Rattle.writer.specs.declared.Written.the-variants.{Header}
 
 -- what the two writers take
 pub record Parts : Type 0 where

@@ -1,19 +1,17 @@
 -- The writers and the check agree (specification, 8.3).
 -- Assumes nothing.
-use Prim.Native.Nat.{ℕ, _<_}
+use Prim.Native.Nat.{ℕ, _+_, _≤_, _<_}
 use mathlib.Core.Path.{_≡_}
 use mathlib.Core.List.{List}
 use mathlib.Core.Bool.{true}
-use lib.ListN.{length, getD}
+use lib.ListN.{length, getD, take}
 use Rattle.header.specs.declared.Inputs.{Inputs}
 use Rattle.header.specs.declared.Outcome.the-variants.{Pass}
-use Rattle.image.specs.Check.{checkFile}
+use Rattle.image.specs.Check.{checkFile, checkSlot}
 use Rattle.image.specs.declared.Image.{Image}
 use Rattle.image.specs.declared.Answer.the-variants.{Accepted}
 use Rattle.signing.specs.Digests.{vendorDigest, firmwareDigest}
-use Rattle.writer.specs.declared.Vendor.{Vendor}
-use Rattle.writer.specs.declared.Firmware.{Firmware}
-use Rattle.writer.specs.Parts.{Parts, sizeOf, fileOf, Sized, Taken, WellFormed, partsOf}
+use Rattle.writer.specs.Parts.{Parts, Sized, WellFormed, WrittenFile, partsOf}
 
 -- a well-formed image that the writers left passes the file check with yes from the chip, which tells what was written
 abbrev pub WrittenImagesPass : Type 0
