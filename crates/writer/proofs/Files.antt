@@ -84,8 +84,8 @@ module _ {p : Parts} {v : ℕ} (s : Sized p) (vout fout : List ℕ) (e : v ≡ s
   outputs-are =
       rw e
       (ap₂ (λ (x y : List ℕ). x ++ (y ++ p .code))
-      (left _ vout (sizeOf p) (t .vendorTaken) (vendor-in-length s t))
-      (left _ fout 1024 (t .firmwareTaken) (firmware-in-length s)))
+      (left (vendorIn p) vout (sizeOf p) (t .vendorTaken) (vendor-in-length s t))
+      (left (firmwareIn p) fout 1024 (t .firmwareTaken) (firmware-in-length s)))
 
 pub written-is : {p : Parts} {v : ℕ} {vout fout file : List ℕ} → Sized p → WrittenFile p v vout fout file → IsFile p v (length vout) (length fout) file
 written-is {p} {v} {vout} {fout} s w =

@@ -1,4 +1,4 @@
--- The firmware header as its fields one behind the other, and when its writer refuses (specification, 3 and 8.2).
+-- The firmware header as its fields one behind the other, when its writer refuses, and what the call answers and leaves (specification, 3 and 8.2).
 -- Assumes nothing.
 use Prim.Native.Nat.{ℕ}
 use mathlib.Core.List.{List, [], _∷_, _++_}

@@ -1,4 +1,4 @@
--- The vendor header as its fields one behind the other, and when its writer refuses (specification, 2 and 8.1).
+-- The vendor header as its fields one behind the other, when its writer refuses, and what the call answers and leaves (specification, 2 and 8.1).
 -- Assumes nothing.
 use Prim.Native.Nat.{ℕ, _+_, _-_, _*_}
 use mathlib.Core.List.{List, [], _∷_, _++_}
