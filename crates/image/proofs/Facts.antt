@@ -20,7 +20,7 @@ use Rattle.header.proofs.Rows.{passes-here, ends, stage-first, stage-then, stag
 use Rattle.header.proofs.Facts.{VendorShaped, FirmwareShaped, headers-pass, vendor-shaped, firmware-shaped, extent-passes}
 use Rattle.image.specs.Chunks.{hashesOf, hashTable, codeOf, hashRows}
 use Rattle.image.specs.Answer.{versionAt, imageOf, answerOf}
-use Rattle.image.specs.Check.{checkRows, checkFile}
+use Rattle.image.specs.Check.{checkRows, checkFile, checkSlot}
 use Rattle.image.specs.declared.Version.{Version}
 use Rattle.image.specs.declared.Image.{Image}
 use Rattle.image.specs.declared.Answer.{Answer}
@@ -114,6 +114,15 @@ pub file-accepted : (b : List ℕ) (given : Inputs) → RowsPass (vendorMagicMis
 unfolding checkFile
 file-accepted b given p = rows-accepted p
 
+-- the check of a slot
+pub slot-rows-pass : (b : List ℕ) (given : Inputs) (i : Image) → checkSlot b given ≡ Accepted i → RowsPass (vendorMagicMissing b) (tailNotErased b) b given
+unfolding checkSlot
+slot-rows-pass b given i h = accepted-rows (vendorMagicMissing b) (tailNotErased b) b given i h
+
+pub slot-told : (b : List ℕ) (given : Inputs) (i : Image) → checkSlot b given ≡ Accepted i → imageOf b ≡ i
+unfolding checkSlot
+slot-told b given i h = told (firstFailing (checkRows (vendorMagicMissing b) (tailNotErased b) b given)) (imageOf b) i h
+
 -- ---- the extent
 
 -- a file that is as long as its image passes S21 and S22, and an accepted file is so long
@@ -146,12 +155,16 @@ pub sound-file-accepted : (b : List ℕ) (given : Inputs) → firstFailing (head
 sound-file-accepted b given h l e =
     file-accepted b given (record { headers = h; extent = file-extent-passes b l; hashes = hashes-pass b e })
 
--- ---- the code
+-- ---- parts
 
--- it has codelen bytes where the image is held whole, and is all that follows the headers of a file
-pub code-length : (b : List ℕ) → imageLen b ≤ length b → length (codeOf b) ≡ codeLen b
+-- n bytes, where there are so many
+pub length-part : (b : List ℕ) (a e n : ℕ) → e ≡ a + n → e ≤ length b → length (between a e b) ≡ n
 unfolding between
-code-length b h = simp (length-take, length-drop) (omega arith)
+length-part b a e n h g = simp (length-take, length-drop) (omega arith)
+
+-- the code has codelen bytes where the image is held whole, and is all that follows the headers of a file
+pub code-length : (b : List ℕ) → imageLen b ≤ length b → length (codeOf b) ≡ codeLen b
+code-length b h = length-part b (codeStart b) (imageLen b) (codeLen b) refl h
 
 pub code-is-rest : (b : List ℕ) → length b ≡ imageLen b → codeOf b ≡ drop (codeStart b) b
 code-is-rest b e = between-end (codeStart b) (imageLen b) b (omega arith)

@@ -8,14 +8,10 @@ use Rattle.header.specs.declared.Outcome.the-variants.{Pass, Refused}
 use Rattle.writer.specs.declared.Written.{Written}
 use Rattle.writer.specs.declared.Written.the-variants.{Header, Not}
 
--- the number of every answer (specification, 14), and the length that a success tells
+-- the number of every answer (specification, 14)
 abbrev pub numberOf : Written → ℕ
 numberOf (Header len) = 0
 numberOf (Not number) = number
-
-abbrev pub lengthOf : Written → ℕ
-lengthOf (Header len) = len
-lengthOf (Not number) = 0
 
 -- the header's length, or the number of the first failing row
 abbrev pub answered : Outcome → ℕ → Written
