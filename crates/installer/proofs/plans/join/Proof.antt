@@ -7,8 +7,8 @@ use native.Mathlib.Numerals.{add-one}
 use lib.ListN.{length}
 use lib.Seq.{paste, paste-zero, paste-suc}
 use borrow.Author.Needs.{needs}
-use Rattle.installer.proofs.join.Statement.{statement}
-use Rattle.installer.proofs.join.Tie as tie
+use Rattle.installer.proofs.plans.join.Statement.{statement}
+use Rattle.installer.proofs.plans.join.Tie as tie
 
 abbrev Inv-loop : tie.InvT-loop
 Inv-loop got piece k w₀ i₀ w i = (i ≤ k) × (length w₀ ≡ 4) × (w ≡ paste w₀ got piece i)

@@ -2,8 +2,8 @@
 use borrow.Author.Needs.{needs}
 use borrow.Author.Tests.{lt-leb, le-leb}
 use Rattle.installer.specs.Record.{sound}
-use Rattle.installer.proofs.sound.Statement.{statement}
-use Rattle.installer.proofs.sound.Tie as tie
+use Rattle.installer.proofs.record.sound.Statement.{statement}
+use Rattle.installer.proofs.record.sound.Tie as tie
 
 pub sound-spec : {M : Type 1} → statement M
 unfolding sound

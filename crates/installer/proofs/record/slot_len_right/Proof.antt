@@ -1,8 +1,8 @@
 -- The three tests are those of the definition, in its order.
 use mathlib.Core.Path.{refl}
 use Rattle.installer.specs.Record.{slotLenRight}
-use Rattle.installer.proofs.slot_len_right.Statement.{statement}
-use Rattle.installer.proofs.slot_len_right.Tie as tie
+use Rattle.installer.proofs.record.slot_len_right.Statement.{statement}
+use Rattle.installer.proofs.record.slot_len_right.Tie as tie
 
 pub slot-len-right-spec : {M : Type 1} → statement M
 unfolding slotLenRight

@@ -2,8 +2,8 @@
 use mathlib.Core.Logic.{⊎-elim}
 use native.Mathlib.Omega.{arith}
 use borrow.Author.Needs.{needs}
-use Rattle.installer.proofs.takes.Statement.{statement}
-use Rattle.installer.proofs.takes.Tie as tie
+use Rattle.installer.proofs.plans.takes.Statement.{statement}
+use Rattle.installer.proofs.plans.takes.Tie as tie
 
 pub takes-spec : {M : Type 1} → statement M
 takes-spec =
