@@ -1,3 +1,4 @@
 -- The laws that the proofs of installer cite.
 pub mod Facts
 pub mod Parts
+pub mod Operations
