@@ -2,3 +2,5 @@
 pub mod Facts
 pub mod Parts
 pub mod Operations
+pub mod Slot
+pub mod Phases
