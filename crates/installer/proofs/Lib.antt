@@ -4,3 +4,6 @@ pub mod Parts
 pub mod Operations
 pub mod Slot
 pub mod Phases
+pub mod Allowed
+pub mod Steps
+pub mod Fills

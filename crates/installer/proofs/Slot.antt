@@ -1,12 +1,14 @@
 -- The slot while pages are erased and while a file is filled in: which bytes it holds when the bytes g were given.
 -- Assumes nothing.
-use mathlib.Core.Path.{_≡_, sym, ap, _∙_}
-use mathlib.Core.List.{List, [], _++_, append-assoc, append-nil}
+use mathlib.Core.Path.{_≡_, refl, sym, ap, _∙_}
+use mathlib.Core.List.{List, [], _∷_, _++_, append-assoc, append-nil}
 use mathlib.Core.Bool.{true}
 use Prim.Native.Nat.{ℕ, _+_, _-_, _*_, _/_, _%_, _≤_, max}
 use native.Mathlib.Omega.{arith}
 use lib.ListN.{length, take, drop, length-append, length-take, length-drop, take-append-drop, drop-of-length-le}
 use lib.Seq.{take-at, drop-at, drop-drop, drop-length, take-all, take-append-le, drop-append-le, drop-append-add}
+use borrow.Author.Tests.{eq-eqb}
+use Rattle.octets.specs.Read.{startsWith}
 use Rattle.flash.specs.Flash.{erasedBytes, startsErased}
 use Rattle.flash.proofs.Laws.{length-erased, erased-none, erased-append, erased-word, pageErased, wordStored}
 use Rattle.installer.specs.Run.{pagesErased, wholeWords, holding}
@@ -159,3 +161,15 @@ module _ (g : List ℕ) (n : ℕ) (h : 4 ≤ length g) (m : length g % 4 ≡ 0) 
       let e : max 4 (wholeWords g) ≡ length g = omega arith in
       rw (drop-at (erasedBytes 4) (drop 4 (take (wholeWords g) g) ++ erasedBytes (n - max 4 (wholeWords g))) 4 (length-erased 4), all-words, e)
       (sym (append-assoc (take 4 g) (drop 4 g) (erasedBytes (n - length g))) ∙ ap (λ (v : List ℕ). v ++ erasedBytes (n - length g)) (take-append-drop 4 g))
+
+-- ---- a slot starts with the first word of what it holds
+
+starts-same : (w rest : List ℕ) → startsWith w (w ++ rest) ≡ true
+starts-same [] rest = refl
+starts-same (x ∷ w) rest = rw (eq-eqb x x refl) (starts-same w rest)
+
+pub starts-own : (g rest : List ℕ) → 4 ≤ length g → startsWith (take 4 g) (g ++ rest) ≡ true
+starts-own g rest h =
+    ap (λ (l : List ℕ). startsWith (take 4 g) (l ++ rest)) (sym (take-append-drop 4 g))
+    ∙ ap (startsWith (take 4 g)) (append-assoc (take 4 g) (drop 4 g) rest)
+    ∙ starts-same (take 4 g) (drop 4 g ++ rest)
