@@ -7,3 +7,4 @@ pub mod Phases
 pub mod Allowed
 pub mod Steps
 pub mod Fills
+pub mod Landing
