@@ -21,8 +21,10 @@ use Rattle.image.specs.Check.{checkFile}
 use Rattle.image.specs.declared.Answer.{Answer}
 use Rattle.image.specs.declared.Answer.the-variants as answer
 use Rattle.octets.proofs.Laws.{and-left, and-right}
-use Rattle.installer.specs.Record.{pagesOf, erasing, filling, full, sound, withPage, withPhase}
-use Rattle.installer.specs.Calls.{plan, refused, erasePlan, takes, takenBy, joined, wordAt, inFirstWord, filled, fillPlan, fileIn, judged, closeBy, closePlan}
+use Rattle.octets.specs.Read.{startsWith}
+use Rattle.installer.specs.Record.{pagesOf, erasing, filling, full, waiting, sound, withPage, withPhase}
+use Rattle.installer.specs.Run.{isDone}
+use Rattle.installer.specs.Calls.{confirmOf, plan, refused, erasePlan, takes, takenBy, joined, wordAt, inFirstWord, filled, fillPlan, fileIn, judged, closeBy, closePlan}
 use Rattle.installer.specs.Operations.{Writing, eraseNext, fillWith, closeWith, planOf, OneOperation, AtMostOneOperation}
 use Rattle.installer.specs.declared.Session.{Session}
 use Rattle.installer.specs.declared.Reply.{Reply}
@@ -181,10 +183,43 @@ module _ (s : Session) (slot : List ℕ) where
       go true h true i (answer.Rejected r) = rw (h, i) refl
       go true h true i (answer.Accepted x) = rw (h, i) refl
 
+-- ---- Done
+
+not-done : (c : Writing) (s : Session) (slot : List ℕ) → planOf c s slot .reply ≡ reply.Done → ⊥
+not-done eraseNext s slot e = go (erasing s (length slot)) refl e
+  where
+    go : (a : Bool) → erasing s (length slot) ≡ a → erasePlan s slot .reply ≡ reply.Done → ⊥
+    go true h e = false≢true (ap isDone (rw h at e))
+    go false h e = false≢true (ap isDone (rw h at e))
+not-done (fillWith piece) s slot e = go (filling s (length slot)) refl (eqb (s .taken % 4 + takenBy s piece) 4) refl (inFirstWord s) refl (startsErased (drop (wordAt s) slot)) refl e
+  where
+    go : (a : Bool) → filling s (length slot) ≡ a → (b : Bool) → eqb (s .taken % 4 + takenBy s piece) 4 ≡ b → (c : Bool) → inFirstWord s ≡ c → (d : Bool) → startsErased (drop (wordAt s) slot) ≡ d
+        → fillPlan s piece slot .reply ≡ reply.Done → ⊥
+    go false h b i c j d l e = false≢true (ap isDone (rw h at e))
+    go true h false i c j d l e = false≢true (ap isDone (rw (h, i) at e))
+    go true h true i true j d l e = false≢true (ap isDone (rw (h, i, j) at e))
+    go true h true i false j false l e = false≢true (ap isDone (rw (h, i, j, l) at e))
+    go true h true i false j true l e = false≢true (ap isDone (rw (h, i, j, l) at e))
+not-done (closeWith given) s slot e = go (full s (length slot)) refl (startsErased slot) refl (checkFile (fileIn s slot) given) e
+  where
+    go : (a : Bool) → full s (length slot) ≡ a → (b : Bool) → startsErased slot ≡ b → (v : Answer) → closeBy s v slot .reply ≡ reply.Done → ⊥
+    go false h b i v e = false≢true (ap isDone (rw h at e))
+    go true h false i v e = false≢true (ap isDone (rw (h, i) at e))
+    go true h true i (answer.Rejected r) e = false≢true (ap isDone (rw (h, i) at e))
+    go true h true i (answer.Accepted x) e = false≢true (ap isDone (rw (h, i) at e))
+
+confirm-stands : (s : Session) (slot : List ℕ) → confirmOf s slot .reply ≡ reply.Done → startsWith (s .first) slot ≡ true
+confirm-stands s slot e = go (waiting s (length slot)) refl (startsWith (s .first) slot) refl e
+  where
+    go : (a : Bool) → waiting s (length slot) ≡ a → (b : Bool) → startsWith (s .first) slot ≡ b → confirmOf s slot .reply ≡ reply.Done → startsWith (s .first) slot ≡ true
+    go a h true i e = i
+    go true h false i e = absurd (false≢true (ap isDone (rw (h, i) at e)))
+    go false h false i e = absurd (false≢true (ap isDone (rw h at e)))
+
 plans : (c : Writing) (s : Session) (slot : List ℕ) → OneOperation s slot (planOf c s slot)
 plans eraseNext s slot = erase-plans s slot
 plans (fillWith piece) s slot = fill-plans s slot piece
 plans (closeWith given) s slot = close-plans s slot given
 
 pub at-most-one-operation : AtMostOneOperation
-at-most-one-operation = record { one = plans; nothing = λ s piece slot h. fill-nothing s slot piece h; kept = λ s given slot. close-keeps s slot given }
+at-most-one-operation = record { one = plans; notDone = not-done; confirmed = confirm-stands; nothing = λ s piece slot h. fill-nothing s slot piece h; kept = λ s given slot. close-keeps s slot given }

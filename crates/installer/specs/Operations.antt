@@ -6,6 +6,7 @@ use mathlib.Core.List.{List}
 use mathlib.Core.Bool.{true}
 use mathlib.Core.Logic.{_⊎_}
 use lib.ListN.{length, drop}
+use Rattle.octets.specs.Read.{startsWith}
 use Rattle.flash.specs.Flash.{startsErased}
 use Rattle.flash.specs.Operation.{count}
 use Rattle.flash.specs.declared.Word.{Word}
@@ -13,12 +14,12 @@ use Rattle.flash.specs.declared.Operation.the-variants.{Nothing, ErasePage, Sto
 use Rattle.header.specs.declared.Refusal.{Refusal}
 use Rattle.header.specs.declared.Inputs.{Inputs}
 use Rattle.installer.specs.Record.{pagesOf, withPhase}
-use Rattle.installer.specs.Calls.{erasePlan, fillPlan, closePlan}
+use Rattle.installer.specs.Calls.{erasePlan, fillPlan, closePlan, confirmOf}
 use Rattle.installer.specs.declared.Session.{Session}
 use Rattle.installer.specs.declared.Plan.{Plan}
-use Rattle.installer.specs.declared.Reply.the-variants.{Refused, Rejected}
+use Rattle.installer.specs.declared.Reply.the-variants.{Done, Refused, Rejected}
 
--- a call that may make an operation, with its arguments. Begin, Ask and Confirm have no slot to write
+-- a call that may make an operation, with its arguments. Begin, Ask and Confirm write no slot
 pub data Writing : Type 0 where
   eraseNext : Writing
   fillWith : List ℕ → Writing
@@ -44,6 +45,9 @@ pub record OneOperation (s : Session) (slot : List ℕ) (p : Plan) : Type 0 wher
 
 pub record AtMostOneOperation : Type 0 where
   pub one : (c : Writing) (s : Session) (slot : List ℕ) → OneOperation s slot (planOf c s slot)
+  -- no call that hands its operation back answers Done; Confirm does, and only where word 0 stands in the slot
+  pub notDone : (c : Writing) (s : Session) (slot : List ℕ) → planOf c s slot .reply ≡ Done → ⊥
+  pub confirmed : (s : Session) (slot : List ℕ) → confirmOf s slot .reply ≡ Done → startsWith (s .first) slot ≡ true
   -- an empty piece, or any piece after the last byte, changes nothing
   pub nothing : (s : Session) (piece slot : List ℕ) → (length piece ≡ 0) ⊎ (s .taken ≡ s .file)
       → (fillPlan s piece slot .session ≡ s) × (fillPlan s piece slot .operation ≡ Nothing)

@@ -161,7 +161,7 @@ pub fn plan_close(s: Session, given: Inputs, slot: &[u8]) -> Plan
     ensures { λ r. ⌜ r ≡ closePlan s given (now (slot .entry)) ⌝ }
 {
     if !full(s, slot.len()) {
-        return refused(s, 19);
+        return refused(s, 19); // before the last byte
     }
     if !starts_erased(slot) {
         return refused(s, 23);
