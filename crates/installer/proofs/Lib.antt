@@ -1,6 +1,7 @@
 -- The laws that the proofs of installer cite.
 pub mod Facts
 pub mod Parts
+pub mod Operations
 pub mod Slot
 pub mod Phases
 pub mod Allowed

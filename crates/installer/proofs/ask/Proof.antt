@@ -32,9 +32,9 @@ ask-spec =
     (λ c.
     let f = c .before .before .before in
     rw (barred-full _ _ _ (f .full .ensures) (c .before .before .if1 .taken), ← c .before .no-digest .ensures) (cc))
-    (λ c. let d : tie.Else1 = c .before .before in sym (length-take-le (recordOf d .file) (slotOf d) (ready d .0 .fileMost)))
+    (λ c. let d : tie.Else1 = c .before .before in sym (length-take-le (recordOf d .file) (slotOf d) (ready d .0 .lengths .fileMost)))
     (λ c κs. search needs)
-    (λ c. let d : tie.Else1 = c .before .before .before .before in sym (length-take-le (recordOf d .file) (slotOf d) (ready d .0 .fileMost)))
+    (λ c. let d : tie.Else1 = c .before .before .before .before in sym (length-take-le (recordOf d .file) (slotOf d) (ready d .0 .lengths .fileMost)))
     (λ c κs. search needs)
     (λ c.
     let v = c .before .before in

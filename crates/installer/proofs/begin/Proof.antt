@@ -27,14 +27,12 @@ begin-spec =
     (tie.spec
     (λ c κs. search needs)
     (λ c κs. search needs)
-    (λ c κs. search needs)
-    (λ c. rw (sym (slotTest (c .before .before .before)) ∙ not-true _ (c .before .before .if1 .taken)) (cc))
-    (λ c κs. search needs)
+    (λ c. rw (sym (slotTest (c .before .before)) ∙ not-true _ (c .before .if1 .taken)) (cc))
     (λ c κs. search needs)
     (λ c κs. search needs)
     (λ c.
-    let b = c .before .before .before in
-    rw (sym (slotTest (b .before .before)) ∙ not-false _ (b .before .if1 .left), sym (fileTest b) ∙ not-true _ (c .before .before .if2 .taken)) (cc))
+    let b = c .before .before in
+    rw (sym (slotTest (b .before .before)) ∙ not-false _ (b .before .if1 .left), sym (fileTest b) ∙ not-true _ (c .before .if2 .taken)) (cc))
     (λ c κs. search needs)
     (λ c.
     let b = c .before .before in
