@@ -1,14 +1,13 @@
--- Each word is the promise of its callee; the last eight are zeros.
+-- Each word is the promise of its callee; the last eight are read from the old words.
 use borrow.Author.Needs.{needs}
-use Rattle.abi.specs.Session.{wordsOf}
-use Rattle.abi.proofs.session.words_of.Statement.{statement}
-use Rattle.abi.proofs.session.words_of.Tie as tie
+use Rattle.abi.specs.Session.{wordsOver}
+use Rattle.abi.proofs.session.words_over.Statement.{statement}
+use Rattle.abi.proofs.session.words_over.Tie as tie
 
 returns : tie.Need-returns
-unfolding wordsOf
+unfolding wordsOver
 returns c =
     rw (
-      c .before .before .before .before .before .before .before .before .before .flag .ensures,
       c .before .before .before .before .before .before .before .before .low .ensures,
       c .before .before .before .before .before .before .before .low2 .ensures,
       c .before .before .before .before .before .before .low3 .ensures,
@@ -18,8 +17,8 @@ returns c =
       c .u32-at2 .ensures,
     )
 
-pub words-of-spec : {M : Type 1} → statement M
-words-of-spec =
+pub words-over-spec : {M : Type 1} → statement M
+words-over-spec =
     tie.close
     (tie.spec
     (λ c κs. search needs)
@@ -27,9 +26,16 @@ words-of-spec =
     (λ c κs. search needs)
     (λ c κs. search needs)
     (λ c κs. search needs)
-    (λ c κs. search needs)
     (λ c. search needs)
     (λ c κs. search needs)
     (λ c. search needs)
     (λ c κs. search needs)
+    (λ c. search needs)
+    (λ c. search needs)
+    (λ c. search needs)
+    (λ c. search needs)
+    (λ c. search needs)
+    (λ c. search needs)
+    (λ c. search needs)
+    (λ c. search needs)
     returns)
