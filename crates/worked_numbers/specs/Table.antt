@@ -4,10 +4,13 @@ use Prim.Native.Nat.{ℕ, _+_, _-_, _*_}
 use mathlib.Core.Path.{_≡_}
 use mathlib.Core.List.{List, [], _∷_, _++_}
 use mathlib.Core.Bool.{true, false}
-use lib.ListN.{replicate}
-use Rattle.header.specs.Layout.{TRZV, pictureStart, maskAt, firstRoom}
+use lib.ListN.{length, replicate}
+use Rattle.header.specs.Layout.{TRZV, pictureStart, firstRoom}
 use Rattle.header.specs.Table.{firstFailing, vendorShape, vendorPolicy}
 use Rattle.header.specs.Trust.{trustOf}
+use Rattle.image.specs.Answer.{imageOf}
+use Rattle.image.specs.Parts.{pictureOf, whenAccepted}
+use Rattle.image.specs.declared.Answer.the-variants.{Accepted}
 use Rattle.installer.specs.Run.{History, made}
 use Rattle.header.specs.declared.Inputs.{Inputs}
 use Rattle.header.specs.declared.Outcome.{Outcome}
@@ -59,15 +62,15 @@ policyOf expiry mask time = number (firstFailing (vendorPolicy (vendor 2 4 expir
 
 -- a session that was closed with Done: 16 Erase calls, and a file of 1,540 bytes
 abbrev pub installed : History
-installed = record { isOpen = false; erases = 16; given = replicate 1540 0; touched = true; done = true }
+installed = record { isOpen = false; erases = 16; given = replicate 1540 0; touched = true; stored = true; waiting = false; done = true }
 
 abbrev pub workedNumbers : List Worked
 workedNumbers =
     -- P1, P2: where the picture starts
     (pictureStart 2 4 gives 104)
     ∷ (pictureStart 2 3 gives 100)
-    -- P3: the bytes of the picture area
-    ∷ (maskAt 512 - pictureStart 2 4 gives 343)
+    -- P3: the bytes of the picture area that is handed back
+    ∷ (length (whenAccepted (Accepted (imageOf (vendor 2 4 0 0))) (pictureOf (vendor 2 4 0 0))) gives 343)
     -- P4, P5: a string that leaves room, and one that does not
     ∷ (shapeOf 8 155 gives 0)
     ∷ (shapeOf 8 156 gives 5)
