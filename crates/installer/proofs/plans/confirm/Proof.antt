@@ -1,7 +1,10 @@
 -- Each return is one case of the definition.
 use borrow.Author.Needs.{needs}
 use borrow.Author.Tests.{not-true, not-false}
-use mathlib.Core.Path.{sym, _∙_}
+use mathlib.Core.Path.{sym, ap, _∙_}
+use Rattle.installer.specs.Calls.{turn}
+use Rattle.installer.specs.declared.Session.{Session}
+use Rattle.installer.specs.declared.Reply.the-variants.{Done}
 use Rattle.installer.proofs.plans.confirm.Statement.{statement}
 use Rattle.installer.proofs.plans.confirm.Tie as tie
 
@@ -21,4 +24,4 @@ confirm-spec =
     (λ c.
     let b = c .before .before in
     let e = b .before .before .before in
-    rw (sym (e .before .waiting .ensures) ∙ not-false _ (e .if1 .left), sym (b .starts-with .ensures) ∙ not-false _ (c .before .if2 .left)) (cc)))
+    rw (sym (e .before .waiting .ensures) ∙ not-false _ (e .if1 .left), sym (b .starts-with .ensures) ∙ not-false _ (c .before .if2 .left)) (ap (λ (s : Session). turn s Done) (c .with-phase .ensures))))

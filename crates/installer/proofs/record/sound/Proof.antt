@@ -15,4 +15,7 @@ sound-spec =
     (λ c κs. search needs)
     (λ c κs. search needs)
     (λ c. search needs)
-    (λ c. rw (le-leb _ _ (c .before .before .before .before .before .before .before .before .before .before .if1 .left)) (cc)))
+    (λ c.
+    let w = c .before .before in
+    let f = w .before .before .before .before in
+    rw (le-leb _ _ (f .before .before .before .before .if1 .left), ← f .before .slot-len-right .ensures, ← f .file-len-right .ensures, ← w .words-stored .ensures)))
