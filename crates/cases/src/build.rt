@@ -1,12 +1,17 @@
-// Images built by hand, byte by byte, after the tables of 01. No writer makes them, and no reader
-// of a header tells where a field stands.
+// Images built by hand, byte by byte, after the tables of the specification. No writer makes them, and
+// no reader of a header tells where a field stands.
 //
 // Every function is total: what would fall past the end of the buffer is dropped, and a copy that
 // would is not made.
+use crate::rows;
+use crate::rows::number;
 use blake2s::blake2s;
-use octets::byte_at;
 use octets::minus;
 use octets::part;
+use octets::put::byte0;
+use octets::put::byte1;
+use octets::put::byte2;
+use octets::put::byte3;
 use octets::put::put_bytes;
 
 pub fn set(b: &mut [u8], at: usize, x: u8) {
@@ -24,6 +29,16 @@ pub fn fill(b: &mut [u8], from: usize, to: usize, x: u8) {
     }
 }
 
+// Bytes that repeat only after 251, and are never 0 and never 255: a zero byte or an erased one that
+// is read in their stead is seen.
+fn pattern(b: &mut [u8], to: usize) {
+    let mut i: usize = 0;
+    while i < to {
+        set(b, i, (1 + i % 251) as u8);
+        i += 1;
+    }
+}
+
 // The bytes of another slice, from a place on.
 pub fn copy(b: &mut [u8], from: usize, bytes: &[u8]) {
     if b.len() < from {
@@ -35,133 +50,137 @@ pub fn copy(b: &mut [u8], from: usize, bytes: &[u8]) {
     put_bytes(b, from, bytes);
 }
 
-// Bytes that repeat only after 251, and are never 0 and never 255: a zero byte or an erased one that
-// is read in their stead is seen.
-pub fn pattern(b: &mut [u8], from: usize, to: usize) {
-    let mut i = from;
-    while i < to {
-        set(b, i, (1 + (i - from) % 251) as u8);
-        i += 1;
-    }
-}
-
-fn letters(b: &mut [u8], from: usize, to: usize) {
-    let mut i = from;
-    while i < to {
-        set(b, i, (65 + (i - from) % 26) as u8);
-        i += 1;
-    }
-}
-
-// Four letters at the start of a header.
-fn magic(b: &mut [u8], start: u32, letters: &[u8]) {
-    let at = start as usize;
-    set(b, at, byte_at(letters, 0));
-    set(b, at + 1, byte_at(letters, 1));
-    set(b, at + 2, byte_at(letters, 2));
-    set(b, at + 3, byte_at(letters, 3));
-}
-
 // A little-endian word at an offset of the header that starts at a place.
-pub fn word(b: &mut [u8], start: u32, offset: u32, x: u32) {
+fn put_word(b: &mut [u8], start: u32, offset: u32, x: u32) {
     let at = start as usize + offset as usize;
-    set(b, at, (x % 256) as u8);
-    set(b, at + 1, (x / 256 % 256) as u8);
-    set(b, at + 2, (x / 65536 % 256) as u8);
-    set(b, at + 3, (x / 16777216) as u8);
+    set(b, at, byte0(x));
+    set(b, at + 1, byte1(x));
+    set(b, at + 2, byte2(x));
+    set(b, at + 3, byte3(x));
 }
 
-// The fixed fields of a vendor header: 2 of n keys, no expiry, version 9.8, vtrust 0xFFF6.
-fn vendor_fields(b: &mut [u8], v: u32, n: u8) {
-    fill(b, 0, v as usize, 0);
-    magic(b, 0, b"TRZV");
-    word(b, 0, 4, v);
-    word(b, 0, 12, 0x00020809);
-    set(b, 15, n);
-    word(b, 0, 16, 0x0000FFF6);
+// A number modulo 2^32.
+pub fn narrow(x: usize) -> u32 {
+    (x % 4294967296) as u32
 }
 
-// Keys, string, picture area, a mask of the first two keys, and sig.
-fn vendor_areas(b: &mut [u8], v: u32, n: u8, s: u8) {
-    let v = v as usize;
-    let keys_end = 32 + 32 * (n as usize);
-    let string_end = keys_end + 1 + s as usize;
-    pattern(b, 32, keys_end);
-    set(b, keys_end, s);
-    letters(b, keys_end + 1, string_end);
-    pattern(b, (string_end + 3) / 4 * 4, minus(v, 65));
-    set(b, minus(v, 65), 3);
-    pattern(b, minus(v, 64), v);
+// The places of an image: where its vendor header, its keys and its string end, where its picture
+// starts, and where the image ends.
+pub struct Layout {
+    pub v: u32,
+    pub keys: u32,
+    pub string: u32,
+    pub picture: u32,
+    pub end: u32,
 }
 
-// The fields of a firmware header behind v bytes: no expiry, version 1.2.3.4, fix version 5.6.7.8.
-fn firmware_fields(b: &mut [u8], v: u32, codelen: u32) {
-    let at = v as usize;
-    fill(b, at, at + 1024, 0);
-    magic(b, v, b"TRZF");
-    word(b, v, 4, 1024);
-    word(b, v, 12, codelen);
-    word(b, v, 16, 0x04030201);
-    word(b, v, 20, 0x08070605);
-}
-
-// Its mask of the first two keys, its sig, and the code.
-fn firmware_areas(b: &mut [u8], v: u32, codelen: u32) {
-    let at = v as usize;
-    set(b, at + 959, 3);
-    pattern(b, at + 960, at + 1024);
-    pattern(b, at + 1024, at + 1024 + codelen as usize);
-}
-
-// The hash at k, counted from 0, of the firmware header behind v bytes.
-pub fn put_hash(b: &mut [u8], v: u32, k: u32, hash: [u8; 32]) {
-    let from = v as usize + 32 + 32 * (k as usize);
-    let mut i: usize = 0;
-    while i < 32 {
-        set(b, from + i, hash[i]);
-        i += 1;
+pub fn layout_of(row: &[u8]) -> Layout {
+    let v = number(row, rows::V, 0, 512);
+    let keys = 32 + 32 * (number(row, rows::KEYS, 0, 2) as usize);
+    let string = keys + 1 + number(row, rows::STRING, 0, 4) as usize;
+    let end = v as usize + 1024 + number(row, rows::CODE, 0, 4) as usize;
+    Layout {
+        v,
+        keys: narrow(keys),
+        string: narrow(string),
+        picture: narrow((string + 3) / 4 * 4),
+        end: narrow(end),
     }
 }
 
-// The hash of the chunk at k, where the image ends at a place. Counted from the image's start,
-// chunks end at the multiples of 131,072, since chunk 1 has room for 131,072 - 1,024 - v bytes.
-fn chunk_hash(b: &mut [u8], v: u32, k: u32, end: usize) {
-    let limit = 131072 * (k as usize) + 131072;
-    let from = if k == 0 {
-        v as usize + 1024
+// The vendor header over a pattern: no expiry, version 9.8, m of n keys, vtrust 0xFFF6, and a mask of
+// the first two keys.
+fn vendor(row: &[u8], p: Layout, b: &mut [u8]) {
+    copy(b, 0, b"TRZV");
+    put_word(b, 0, 4, p.v);
+    fill(b, 8, 32, 0);
+    put_word(b, 0, 12, 0x0809);
+    set(b, 14, byte0(number(row, rows::M, 0, 2)));
+    set(b, 15, byte0(number(row, rows::KEYS, 0, 2)));
+    put_word(b, 0, 16, 0xFFF6);
+    set(b, p.keys as usize, byte0(number(row, rows::STRING, 0, 4)));
+    fill(b, p.string as usize, p.picture as usize, 0);
+    set(b, minus(p.v as usize, 65), 3);
+}
+
+// The firmware header behind v bytes over a pattern, its hashes zero: no expiry, version 1.2.3.4, fix
+// version 5.6.7.8, and a mask of the first two keys.
+fn firmware(row: &[u8], v: u32, b: &mut [u8]) {
+    copy(b, v as usize, b"TRZF");
+    put_word(b, v, 4, 1024);
+    put_word(b, v, 8, 0);
+    put_word(b, v, 12, number(row, rows::CODE, 0, 4));
+    put_word(b, v, 16, 0x04030201);
+    put_word(b, v, 20, 0x08070605);
+    fill(b, v as usize + 24, v as usize + 959, 0);
+    set(b, v as usize + 959, 3);
+}
+
+// The hash at k, from 0, of an image that ends at a place. Counted from the image's start, chunks end
+// at the multiples of 131,072, since chunk 1 has room for 131,072 - 1,024 - v bytes.
+fn hash(b: &mut [u8], v: u32, end: u32, k: u32) {
+    let start = 131072 * (k as usize);
+    let from = if k == 0 { v as usize + 1024 } else { start };
+    let limit = start + 131072;
+    let to = if (end as usize) < limit {
+        end as usize
     } else {
-        131072 * (k as usize)
+        limit
     };
-    let to = if end < limit { end } else { limit };
     if from < to {
-        let hash = blake2s(part(b, from, to));
-        put_hash(b, v, k, hash);
+        let digest = blake2s(part(b, from, to));
+        copy(b, v as usize + 32 + 32 * (k as usize), &digest);
     }
 }
 
-fn hashes(b: &mut [u8], v: u32, codelen: u32) {
-    let end = v as usize + 1024 + codelen as usize;
+// The first hashes, so many as the row says, otherwise all.
+fn hashes(row: &[u8], v: u32, end: u32, b: &mut [u8]) {
+    let count = number(row, rows::HASHED, 0, 16);
     let mut k: u32 = 0;
-    while k < 16 {
-        chunk_hash(b, v, k, end);
+    while k < count {
+        hash(b, v, end, k);
         k += 1;
     }
 }
 
-// An image with a vendor header of v bytes, 2 of n keys, a string of s letters and codelen bytes of
-// code. All after it is erased.
-pub fn build(b: &mut [u8], v: u32, n: u8, s: u8, codelen: u32) {
-    let len = b.len();
-    fill(b, 0, len, 255);
-    vendor_fields(b, v, n);
-    vendor_areas(b, v, n, s);
-    firmware_fields(b, v, codelen);
-    firmware_areas(b, v, codelen);
-    hashes(b, v, codelen);
+// What the row changes: a word, a byte, another byte, and a hash that becomes BLAKE2s of nothing.
+fn edit(row: &[u8], v: u32, b: &mut [u8]) {
+    let none: u32 = 4294967295;
+    let digest = blake2s(b"");
+    put_word(
+        b,
+        number(row, rows::WORD, 0, none),
+        0,
+        number(row, rows::WORD, 1, 0),
+    );
+    set(
+        b,
+        number(row, rows::BYTE, 0, none) as usize,
+        byte0(number(row, rows::BYTE, 1, 0)),
+    );
+    set(
+        b,
+        number(row, rows::AND, 0, none) as usize,
+        byte0(number(row, rows::AND, 1, 0)),
+    );
+    copy(
+        b,
+        v as usize + 32 * (number(row, rows::NOTHING, 0, none) as usize),
+        &digest,
+    );
 }
 
-// The image that most cases break: v 512, 2 keys, a string of 4 letters, so that 3 bytes of padding
-// stand before the picture (P1), and 4 bytes of code. It has 1,540 bytes.
-pub fn small(b: &mut [u8]) {
-    build(b, 512, 2, 4, 4);
+// The image of a row. It answers how many bytes are lent: so many as the row says, otherwise those of
+// the image, and not fewer than `least`. What is lent behind the image is erased.
+pub fn image(row: &[u8], least: u32, b: &mut [u8]) -> usize {
+    let p = layout_of(row);
+    let whole = if p.end < least { least } else { p.end };
+    let lent = number(row, rows::LENT, 0, whole) as usize;
+    pattern(b, p.end as usize);
+    vendor(row, p, b);
+    firmware(row, p.v, b);
+    hashes(row, p.v, p.end, b);
+    fill(b, p.end as usize, lent, 255);
+    edit(row, p.v, b);
+    lent
 }

@@ -1,39 +1,36 @@
-// Whole installs: begin, every erase, pieces of odd lengths, ask and close, with refused calls between
-// all others where a row asks for them. Then what the slot holds, and what the boot check says of it.
-use crate::ask::file;
-use crate::ask::given;
-use crate::build::copy;
+// Rows of whole installs: begin, every erase, pieces of one length or of all, ask and close, with
+// refused calls between all others where a row asks for them. Then what the slot holds, and what the
+// boot check says of it.
 use crate::build::fill;
-use crate::build::set;
-use crate::records::print_outcome;
-use crate::records::same_session;
-use crate::rows::byte;
-use crate::rows::value;
+use crate::build::image;
+use crate::checks::inputs;
+use crate::records::call;
+use crate::records::print_reply;
+use crate::records::unchanged;
+use crate::rows;
+use crate::rows::number;
 use crate::show::print;
 use crate::show::print_answer;
 use crate::show::print_number;
-use crate::show::print_size;
 use blake2s::blake2s;
 use header::Outcome;
 use image::check_slot;
 use installer::Reply;
 use installer::Session;
-use installer::Turn;
 use octets::all_are;
 use octets::minus;
 use octets::part;
 use octets::rest;
-use octets::same_digest;
 use octets::starts_with;
 use signing::Digest;
-use std::num::wrapping_add_u32;
+use std::num::wrapping_add_usize;
 
-// An install on its way: its record, how many fill calls it had, and how many calls between the
-// others were refused with 19 and left record and slot as they were.
+// An install on its way: its record, its calls so far, and how many calls between them were refused
+// and left record and slot as they were.
 struct Progress {
     session: Session,
-    fills: usize,
-    refused: u32,
+    calls: usize,
+    refused: usize,
 }
 
 fn is_19(reply: Reply) -> bool {
@@ -43,182 +40,91 @@ fn is_19(reply: Reply) -> bool {
     }
 }
 
-fn digest_is_19(digest: Digest) -> bool {
+fn is_given(digest: Digest) -> bool {
     let outcome = digest.outcome;
     match outcome {
-        Outcome::Refused(r) => r.number == 19,
-        Outcome::Pass => false,
-    }
-}
-
-fn digest_is_given(digest: Digest) -> bool {
-    let outcome = digest.outcome;
-    match outcome {
-        Outcome::Refused(_) => false,
         Outcome::Pass => true,
+        Outcome::Refused(_) => false,
     }
 }
 
-// Whether a call was refused with 19 and left record and slot as they were.
-fn refused(before: Session, digest: [u8; 32], turn: Turn, slot: &[u8]) -> bool {
+// The call whose turn it is, numbered as in `call`.
+fn due(s: Session) -> usize {
+    if s.pages < s.slot / 4096 {
+        return 0;
+    }
+    if s.taken < s.file { 1 } else { 2 }
+}
+
+// One call out of turn: 0 to 2 on the slot, 3 to 5 the same on a slot that is a word shorter, 6 ask.
+// It answers 1 if the call was refused and changed nothing. The call whose turn it is is not made.
+fn refused(which: usize, row: &[u8], s: Session, slot: &mut [u8]) -> usize {
+    if s.live & (which == due(s)) {
+        return 0;
+    }
+    if which == 6 {
+        let asked = installer::ask(s, slot);
+        let told = is_given(asked.vendor) | is_given(asked.firmware);
+        return if told { 0 } else { 1 };
+    }
+    let from: usize = 0;
+    let n = if which < 3 {
+        slot.len()
+    } else {
+        minus(slot.len(), 4)
+    };
+    let digest = blake2s(slot);
+    let turn = call(which % 3, row, s, b"piece", &mut slot[from..n]);
     let session = turn.session;
     let reply = turn.reply;
-    is_19(reply) & same_session(before, session) & same_digest(digest, blake2s(slot))
+    let kept = is_19(reply) & unchanged(s, digest, session, slot);
+    if kept { 1 } else { 0 }
 }
 
-fn erase_refused(s: Session, slot: &mut [u8]) -> bool {
-    let digest = blake2s(slot);
-    let turn = installer::erase(s, slot);
-    refused(s, digest, turn, slot)
-}
-
-fn fill_refused(s: Session, slot: &mut [u8]) -> bool {
-    let digest = blake2s(slot);
-    let turn = installer::fill(s, b"piece", slot);
-    refused(s, digest, turn, slot)
-}
-
-fn ask_refused(s: Session, slot: &[u8]) -> bool {
-    let asked = installer::ask(s, slot);
-    digest_is_19(asked.vendor) & digest_is_19(asked.firmware)
-}
-
-fn close_refused(s: Session, slot: &mut [u8]) -> bool {
-    let digest = blake2s(slot);
-    let turn = installer::close(s, given(file(0)), slot);
-    refused(s, digest, turn, slot)
-}
-
-// One more, if it is so.
-fn counted(total: u32, so: bool) -> u32 {
-    if so {
-        wrapping_add_u32(total, 1)
-    } else {
-        total
+// How many calls are refused before the next one, each tried once, where the row asks for them.
+fn all_refused(row: &[u8], crossed: bool, s: Session, slot: &mut [u8]) -> usize {
+    let tried: usize = if crossed { 7 } else { 0 };
+    let mut total: usize = 0;
+    let mut which: usize = 0;
+    while which < tried {
+        total = wrapping_add_usize(total, refused(which, row, s, slot));
+        which += 1;
     }
+    total
 }
 
-// All calls that may change a slot.
-fn on_slot(s: Session, total: u32, slot: &mut [u8]) -> u32 {
-    let erases = counted(total, erase_refused(s, slot));
-    let fills = counted(erases, fill_refused(s, slot));
-    counted(fills, close_refused(s, slot))
-}
-
-// The same on a slot that is a word shorter than at begin.
-fn on_shorter(s: Session, total: u32, slot: &mut [u8]) -> u32 {
-    let from: usize = 0;
-    let n = minus(slot.len(), 4);
-    on_slot(s, total, &mut slot[from..n])
-}
-
-// Ask, close, and all calls on a slot that is a word shorter.
-fn besides(s: Session, total: u32, slot: &mut [u8]) -> u32 {
-    let asks = counted(total, ask_refused(s, slot));
-    let closes = counted(asks, close_refused(s, slot));
-    on_shorter(s, closes, slot)
-}
-
-// The calls that are refused before the last page is erased, where the row asks for them.
-fn while_erasing(between: bool, s: Session, total: u32, slot: &mut [u8]) -> u32 {
-    if !between {
-        return total;
-    }
-    let fills = counted(total, fill_refused(s, slot));
-    besides(s, fills, slot)
-}
-
-// The same before the last byte is given.
-fn while_filling(between: bool, s: Session, total: u32, slot: &mut [u8]) -> u32 {
-    if !between {
-        return total;
-    }
-    let erases = counted(total, erase_refused(s, slot));
-    besides(s, erases, slot)
-}
-
-// The same once all bytes are given.
-fn while_full(between: bool, s: Session, total: u32, slot: &mut [u8]) -> u32 {
-    if !between {
-        return total;
-    }
-    let erases = counted(total, erase_refused(s, slot));
-    on_shorter(s, erases, slot)
-}
-
-// The same when the session is over: all calls.
-fn once_over(between: bool, s: Session, total: u32, slot: &mut [u8]) -> u32 {
-    if !between {
-        return total;
-    }
-    let fills = counted(total, fill_refused(s, slot));
-    let erases = counted(fills, erase_refused(s, slot));
-    besides(s, erases, slot)
-}
-
-fn erase_pages(begun: Session, between: bool, slot: &mut [u8]) -> Progress {
-    let pages = slot.len() / 4096;
-    let mut session = begun;
-    let mut refused: u32 = 0;
-    let mut calls: usize = 0;
-    while calls < pages {
-        refused = while_erasing(between, session, refused, slot);
-        let turn = installer::erase(session, slot);
-        session = turn.session;
-        calls += 1;
-    }
+// The next call. A piece has so many bytes as the row says, or, for 0, from 0 to 8 in turn.
+fn step(row: &[u8], crossed: bool, p: Progress, file: &[u8], slot: &mut [u8]) -> Progress {
+    let s = p.session;
+    let more = all_refused(row, crossed, s, slot);
+    let by = number(row, rows::BY, 0, 4) as usize;
+    let length = if by == 0 { p.calls % 9 } else { by };
+    let turn = call(due(s), row, s, part(rest(file, s.taken), 0, length), slot);
+    let session = turn.session;
     Progress {
         session,
-        fills: 0,
-        refused,
+        calls: wrapping_add_usize(p.calls, 1),
+        refused: wrapping_add_usize(p.refused, more),
     }
 }
 
-// The next piece: so many bytes, or, for 0, from 0 to 8 in turn.
-fn piece(file: &[u8], taken: usize, by: usize, calls: usize) -> &[u8] {
-    let length = if by == 0 { calls % 9 } else { by };
-    part(rest(file, taken), 0, length)
-}
-
-// Fills until the record has all bytes, twice as many calls at most as the file has bytes.
-fn fill_words(
-    erased: Progress,
-    by: usize,
-    between: bool,
-    file: &[u8],
-    slot: &mut [u8],
-) -> Progress {
-    let limit = file.len() % 4194304 * 2;
-    let mut session = erased.session;
-    let mut refused = erased.refused;
+// All calls before close, at most three for each byte of the file.
+fn filled(row: &[u8], crossed: bool, begun: Session, file: &[u8], slot: &mut [u8]) -> Progress {
+    let limit = 3 * (file.len() % 4294967296);
+    let mut p = Progress {
+        session: begun,
+        calls: 0,
+        refused: 0,
+    };
     let mut calls: usize = 0;
     while calls < limit {
-        if file.len() <= session.taken {
-            return Progress {
-                session,
-                fills: calls,
-                refused,
-            };
+        if due(p.session) == 2 {
+            return p;
         }
-        refused = while_filling(between, session, refused, slot);
-        let turn = installer::fill(session, piece(file, session.taken, by, calls), slot);
-        session = turn.session;
+        p = step(row, crossed, p, file, slot);
         calls += 1;
     }
-    Progress {
-        session,
-        fills: calls,
-        refused,
-    }
-}
-
-fn print_asked(s: Session, slot: &[u8]) {
-    let asked = installer::ask(s, slot);
-    if digest_is_given(asked.vendor) & digest_is_given(asked.firmware) {
-        print(b", both digests, ");
-    } else {
-        print(b", not both digests, ");
-    }
+    p
 }
 
 fn print_slot(file: &[u8], slot: &[u8]) {
@@ -231,67 +137,60 @@ fn print_slot(file: &[u8], slot: &[u8]) {
     }
 }
 
-// Erases and fills a slot that held zeros. It says how many calls that took.
-fn install(by: usize, between: bool, file: &[u8], slot: &mut [u8]) -> Progress {
-    let len = slot.len();
-    fill(slot, 0, len, 0);
-    let turn = installer::begin(slot, file.len());
-    let erased = erase_pages(turn.session, between, slot);
-    let filled = fill_words(erased, by, between, file, slot);
-    print_size(b": pages ", filled.session.pages);
-    print_size(b", taken ", filled.session.taken);
-    print_size(b" by fills ", filled.fills);
-    filled
+fn print_asked(s: Session, slot: &[u8]) {
+    let asked = installer::ask(s, slot);
+    if is_given(asked.vendor) & is_given(asked.firmware) {
+        print(b", both digests, ");
+    } else {
+        print(b", not both digests, ");
+    }
 }
 
-// Closes the session, and says what close answers and what the slot then holds.
-fn finish(filled: Session, image: &[u8], slot: &mut [u8]) -> Session {
-    print_asked(filled, slot);
-    let turn = installer::close(filled, given(file(0)), slot);
+// The end of an install: it says what close answers, what the slot then holds, and how many calls
+// between all others were refused.
+fn close(row: &[u8], crossed: bool, p: Progress, file: &[u8], slot: &mut [u8]) {
+    let full = p.session;
+    let before = all_refused(row, crossed, full, slot);
+    let turn = call(2, row, full, b"", slot);
     let session = turn.session;
     let reply = turn.reply;
-    print_outcome(reply);
-    print_size(b", operations ", session.operations);
-    print_slot(image, slot);
-    session
-}
-
-fn print_refused(between: bool, total: u32) {
-    if between {
-        print_number(b"refused between ", total);
+    let after = all_refused(row, crossed, session, slot);
+    print_reply(reply);
+    print_number(b", operations ", session.operations);
+    print_slot(file, slot);
+    if crossed {
+        let between = wrapping_add_usize(before, after);
+        print_number(b"refused between ", wrapping_add_usize(p.refused, between));
         print(b", ");
     }
 }
 
-// The end of an install, from the last byte on.
-fn end(between: bool, filled: Progress, image: &[u8], slot: &mut [u8]) {
-    let before = while_full(between, filled.session, filled.refused, slot);
-    let over = finish(filled.session, image, slot);
-    print_refused(between, once_over(between, over, before, slot));
+fn whole(row: &[u8], crossed: bool, file: &[u8], slot: &mut [u8]) {
+    let len = slot.len();
+    fill(slot, 0, len, 0);
+    let begun = installer::begin(slot, file.len());
+    let p = filled(row, crossed, begun.session, file, slot);
+    let full = p.session;
+    print_number(b"pages ", full.pages);
+    print_number(b", taken ", full.taken);
+    print_number(b" by fills ", minus(p.calls, full.pages));
+    print_asked(full, slot);
+    close(row, crossed, p, file, slot);
+    print_answer(check_slot(slot, inputs(row)));
 }
 
-// A whole install, with refused calls between all others or with none, and the boot check of the slot.
-fn whole(row: &[u8], between: bool, image: &[u8], slot: &mut [u8]) {
-    print(row);
-    let filled = install(value(row, 2) as usize, between, image, slot);
-    end(between, filled, image, slot);
-    print_answer(check_slot(slot, given(file(0))));
-}
-
-// A row of an install: the lengths of the slot, of the file and of its pieces.
-pub fn installed(row: &[u8], between: bool, image: &[u8], b: &mut [u8]) {
+// A row of an install: the lengths of the slot, of the file and of its pieces. The slot held zeros.
+pub fn install(row: &[u8], crossed: bool, source: &mut [u8], b: &mut [u8]) {
+    let length = number(row, rows::FILE, 0, 1540);
+    image(row, length, source);
     let from: usize = 0;
-    let len = value(row, 0) as usize;
-    let bytes = part(image, 0, value(row, 1) as usize);
-    if b.len() < len {
-        return;
+    let len = number(row, rows::SLOT, 0, 8192) as usize;
+    if len <= b.len() {
+        whole(
+            row,
+            crossed,
+            part(source, 0, length as usize),
+            &mut b[from..len],
+        );
     }
-    whole(row, between, bytes, &mut b[from..len]);
-}
-
-// The same with a byte of the file changed: the place and the byte stand behind the lengths.
-pub fn installed_changed(row: &[u8], image: &[u8], b: &mut [u8], changed: &mut [u8]) {
-    copy(changed, 0, part(image, 0, value(row, 1) as usize));
-    set(changed, value(row, 3) as usize, byte(row, 4));
-    installed(row, false, changed, b);
 }

@@ -1,64 +1,75 @@
-// Cases of the check: images built by hand, broken in one place or in two, and what is answered, a
-// line for each. Then cases of the writers and of the installer, as tables. What each line must say
-// was made by a program apart, from the paper (01) alone.
-mod ask;
+// Cases of the whole library, a line each. The rows stand in the file `stdin`; the program writes each
+// as it stands and the answer behind it. Blank lines and lines that start with `#` are copied. What
+// each line must say is worked out by `tools/cases` from the specification alone.
 mod build;
-mod chunks;
-mod code;
-mod digests;
-mod edges;
-mod faults;
-mod firmware;
-mod installer_tables;
+mod checks;
 mod installs;
-mod order;
-mod parts;
 mod records;
 mod rows;
 mod show;
-mod tables;
-mod vendor;
-mod writer_tables;
 mod writers;
 
-use ask::Asked;
-use ask::ask;
-use ask::file;
-use ask::slot;
-use build::small;
+use libc::STDIN_FILENO;
+use octets::byte_at;
+use rows::item;
+use rows::kind;
+use rows::starts;
+use show::print;
 
-// Every step, on the small image.
-fn steps(b: &mut [u8], asked: Asked) {
-    ask(b"good", b, asked);
-    vendor::run(b, asked);
-    firmware::run(b, asked);
-    code::run(b, asked);
+// Rows of the writers and of the installer.
+fn other(kind: usize, row: &[u8], image: &mut [u8], b: &mut [u8], spare: &mut [u8]) {
+    match kind {
+        rows::ROUNDTRIP => writers::round_trip(row, image, b, spare),
+        rows::VENDOR => writers::vendor(row, image, b),
+        rows::FIRMWARE => writers::firmware(row, image, b),
+        rows::BEGIN => records::begin(row, b),
+        rows::RECORD => records::record(row, image, b),
+        rows::INSTALL => installs::install(row, false, image, b),
+        rows::CROSSED => installs::install(row, true, image, b),
+        _ => print(b"unknown row"),
+    }
 }
 
-// Cases of the check.
-fn checks(b: &mut [u8]) {
-    small(b);
-    steps(b, file(1540));
-    steps(b, slot(4096));
-    code::tails(b);
-    order::run(b);
-    edges::run(b);
-    chunks::run(b);
-    parts::run(b);
-    digests::run(b);
+fn answer(kind: usize, row: &[u8], image: &mut [u8], b: &mut [u8], spare: &mut [u8]) {
+    match kind {
+        rows::FILE => checks::as_file(row, image),
+        rows::SLOT => checks::as_slot(row, image),
+        rows::PARTS => checks::parts(row, image),
+        rows::DIGESTS => checks::digests(row, image),
+        rows::TRUST => checks::trust(row),
+        _ => other(kind, row, image, b, spare),
+    }
 }
 
-fn run(image: &mut [u8], slot: &mut [u8], spare: &mut [u8]) {
-    checks(image);
-    writer_tables::run(image, slot, spare);
-    installer_tables::run(image, slot, spare);
+// The line that starts at a place, if one does.
+fn line(text: &[u8], at: usize, image: &mut [u8], b: &mut [u8], spare: &mut [u8]) {
+    if !starts(text, at, b'\n') {
+        return;
+    }
+    let row = item(text, at, b'\n');
+    print(row);
+    if (row.len() != 0) & (byte_at(row, 0) != b'#') {
+        print(b": ");
+        answer(kind(row), row, image, b, spare);
+    }
+    print(b"\n");
+}
+
+fn lines(text: &[u8], image: &mut [u8], b: &mut [u8], spare: &mut [u8]) {
+    let mut i: usize = 0;
+    while i < text.len() {
+        line(text, i, image, b, spare);
+        i += 1;
+    }
 }
 
 // The largest image has 2,097,152 bytes, and a slot of a page more is refused. The two longest headers
 // have 66,560 bytes together.
 fn main() {
+    let mut text = io::large_buffer();
     let mut image = [0u8; 2101248];
-    let mut slot = [0u8; 2101248];
+    let mut b = [0u8; 2101248];
     let mut spare = [0u8; 66560];
-    run(&mut image, &mut slot, &mut spare);
+    let n = io::read_full(STDIN_FILENO, &mut text);
+    lines(&text[..n], &mut image, &mut b, &mut spare);
 }

@@ -1,19 +1,17 @@
-// Single calls of the installer on records of all kinds: those that a session reaches, and those
-// whose numbers cannot be. Every call is made once on each record, and on a slot that holds what the
-// record says: the words stored so far, and erased bytes.
-use crate::ask::file;
-use crate::ask::given;
+// Rows of single calls of the installer: begin, and every other call on a record, also on one whose
+// numbers cannot be. The slot holds what the record says: the words stored so far, and erased bytes.
 use crate::build::copy;
 use crate::build::fill;
+use crate::build::image;
 use crate::build::set;
-use crate::digests::print_reply;
-use crate::rows::value;
+use crate::checks::inputs;
+use crate::checks::print_digest;
+use crate::rows;
+use crate::rows::number;
 use crate::show::print;
 use crate::show::print_bytes;
 use crate::show::print_number;
-use crate::show::print_rejected;
-use crate::show::print_size;
-use crate::show::print_word;
+use crate::show::print_refusal;
 use blake2s::blake2s;
 use installer::Reply;
 use installer::Session;
@@ -24,52 +22,40 @@ use octets::rest;
 use octets::same_digest;
 use octets::starts_with;
 
-pub fn print_outcome(reply: Reply) {
+pub fn print_reply(reply: Reply) {
     match reply {
         Reply::Begun => print(b"begun"),
         Reply::Erased => print(b"erased"),
-        Reply::Took(count) => print_size(b"took ", count),
+        Reply::Took(count) => print_number(b"took ", count),
         Reply::Done => print(b"Done"),
-        Reply::Refused(number) => print_number(b"refused ", number),
-        Reply::Rejected(r) => print_rejected(r),
-    }
-}
-
-fn print_live(live: bool) {
-    if live {
-        print(b", open, slot ");
-    } else {
-        print(b", over, slot ");
+        Reply::Refused(number) => print_number(b"refused ", number as usize),
+        Reply::Rejected(r) => print_refusal(r),
     }
 }
 
 fn print_session(s: Session) {
-    print_live(s.live);
-    print_size(b"", s.slot);
-    print_size(b" file ", s.file);
-    print_size(b" pages ", s.pages);
-    print_size(b" taken ", s.taken);
-    print_size(b" operations ", s.operations);
+    if s.live {
+        print(b", open");
+    } else {
+        print(b", over");
+    }
+    print_number(b", slot ", s.slot);
+    print_number(b" file ", s.file);
+    print_number(b" pages ", s.pages);
+    print_number(b" taken ", s.taken);
+    print_number(b" operations ", s.operations);
     let first = s.first;
     let held = s.held;
-    print_word(b" first ", first);
-    print_word(b" held ", held);
+    print_bytes(b" first ", &first);
+    print_bytes(b" held ", &held);
 }
 
-fn same_word(a: [u8; 4], b: [u8; 4]) -> bool {
-    starts_with(&a, &b)
-}
-
-fn same_words(a: Session, b: Session) -> bool {
+fn same_session(a: Session, b: Session) -> bool {
     let first = a.first;
     let held = a.held;
     let other_first = b.first;
     let other_held = b.held;
-    same_word(first, other_first) & same_word(held, other_held)
-}
-
-pub fn same_session(a: Session, b: Session) -> bool {
-    let words = same_words(a, b);
+    let words = starts_with(&first, &other_first) & starts_with(&held, &other_held);
     (a.live == b.live)
         & (a.slot == b.slot)
         & (a.file == b.file)
@@ -79,22 +65,20 @@ pub fn same_session(a: Session, b: Session) -> bool {
         & words
 }
 
-// What a call answered, and the record and the slot that it left: as before, or the new record and
-// the digest of the slot.
-fn print_turn(call: &[u8], before: Session, digest: [u8; 32], turn: Turn, slot: &[u8]) {
-    let session = turn.session;
-    let reply = turn.reply;
-    let after = blake2s(slot);
-    print(call);
-    print_outcome(reply);
-    if same_session(before, session) & same_digest(digest, after) {
-        print(b", as before\n");
-        return;
+// Whether a call left the record and the slot as they were before it.
+pub fn unchanged(before: Session, digest: [u8; 32], after: Session, slot: &[u8]) -> bool {
+    same_session(before, after) & same_digest(digest, blake2s(slot))
+}
+
+// One of the calls that may change a slot: erase 0, fill 1, close 2.
+pub fn call(which: usize, row: &[u8], s: Session, piece: &[u8], slot: &mut [u8]) -> Turn {
+    if which == 0 {
+        return installer::erase(s, slot);
     }
-    print_session(session);
-    print(b", slot ");
-    print_bytes(after);
-    print(b"\n");
+    if which == 1 {
+        return installer::fill(s, piece, slot);
+    }
+    installer::close(s, inputs(row), slot)
 }
 
 fn word_at(bytes: &[u8], at: usize) -> [u8; 4] {
@@ -107,106 +91,86 @@ fn word_at(bytes: &[u8], at: usize) -> [u8; 4] {
     ]
 }
 
-// The record of a row: live, slot, file, pages, taken and operations, behind the slot's own length.
-fn session_of(row: &[u8], image: &[u8]) -> Session {
-    let taken = value(row, 5) as usize;
+// The record of a row.
+fn session(row: &[u8], image: &[u8]) -> Session {
+    let taken = number(row, rows::TAKEN, 0, 0) as usize;
     let first = word_at(image, 0);
     let held = word_at(image, taken / 4 * 4);
     Session {
-        live: value(row, 1) == 1,
-        slot: value(row, 2) as usize,
-        file: value(row, 3) as usize,
-        pages: value(row, 4) as usize,
+        live: number(row, rows::LIVE, 0, 1) == 1,
+        slot: number(row, rows::SLOT, 0, 8192) as usize,
+        file: number(row, rows::FILE, 0, 1540) as usize,
+        pages: number(row, rows::PAGES, 0, 2) as usize,
         taken,
-        operations: value(row, 6) as usize,
+        operations: number(row, rows::OPERATIONS, 0, 2) as usize,
         first,
         held,
     }
 }
 
-// The slot as the row says. Where the row names a place behind its piece, that byte is 0, so that its
-// word is not erased.
-fn prepare(row: &[u8], image: &[u8], slot: &mut [u8]) {
+// The slot of a row. Where the row names a place, that byte is 0, so that its word is not erased.
+fn prepare(row: &[u8], taken: usize, image: &[u8], slot: &mut [u8]) {
     let len = slot.len();
-    let taken = value(row, 5) as usize;
     fill(slot, 0, len, 255);
     copy(slot, 4, part(image, 4, taken / 4 * 4));
-    let dirty = value(row, 8) as usize;
-    if dirty != 0 {
-        set(slot, dirty, 0);
-    }
+    set(slot, number(row, rows::DIRTY, 0, 4294967295) as usize, 0);
 }
 
-fn erase_call(row: &[u8], image: &[u8], slot: &mut [u8]) {
-    prepare(row, image, slot);
-    let before = session_of(row, image);
+// One call on the record of a row, what it answered, and the record and the slot that it left.
+fn turn(label: &[u8], which: usize, row: &[u8], image: &[u8], slot: &mut [u8]) {
+    let before = session(row, image);
+    prepare(row, before.taken, image, slot);
     let digest = blake2s(slot);
-    let turn = installer::erase(before, slot);
-    print_turn(b"  erase: ", before, digest, turn, slot);
+    let piece = part(
+        rest(image, before.taken),
+        0,
+        number(row, rows::PIECE, 0, 4) as usize,
+    );
+    let after = call(which, row, before, piece, slot);
+    let session = after.session;
+    let reply = after.reply;
+    print(label);
+    print_reply(reply);
+    print_left(before, digest, session, slot);
 }
 
-// The piece has as many bytes as the row says, from those that come next.
-fn fill_call(row: &[u8], image: &[u8], slot: &mut [u8]) {
-    prepare(row, image, slot);
-    let before = session_of(row, image);
-    let digest = blake2s(slot);
-    let piece = part(rest(image, before.taken), 0, value(row, 7) as usize);
-    let turn = installer::fill(before, piece, slot);
-    print_turn(b"  fill: ", before, digest, turn, slot);
-}
-
-fn ask_call(row: &[u8], image: &[u8], slot: &mut [u8]) {
-    prepare(row, image, slot);
-    let asked = installer::ask(session_of(row, image), slot);
-    print(b"  ask, vendor: ");
-    print_reply(asked.vendor);
-    print(b"  ask, firmware: ");
-    print_reply(asked.firmware);
-}
-
-// At time 100, under a policy of 2 of 3, both verdicts yes.
-fn close_call(row: &[u8], image: &[u8], slot: &mut [u8]) {
-    prepare(row, image, slot);
-    let before = session_of(row, image);
-    let digest = blake2s(slot);
-    let turn = installer::close(before, given(file(0)), slot);
-    print_turn(b"  close: ", before, digest, turn, slot);
-}
-
-fn all_calls(row: &[u8], image: &[u8], slot: &mut [u8]) {
-    erase_call(row, image, slot);
-    fill_call(row, image, slot);
-    ask_call(row, image, slot);
-    close_call(row, image, slot);
-}
-
-// The calls on the first bytes of the buffer, so many as the row says.
-fn calls_on(row: &[u8], image: &[u8], b: &mut [u8]) {
-    let from: usize = 0;
-    let lent = value(row, 0) as usize;
-    if b.len() < lent {
+fn print_left(before: Session, digest: [u8; 32], after: Session, slot: &[u8]) {
+    if unchanged(before, digest, after, slot) {
+        print(b", as before");
         return;
     }
-    all_calls(row, image, &mut b[from..lent]);
+    print_session(after);
+    let left = blake2s(slot);
+    print_bytes(b", slot ", &left);
 }
 
-// A row of a record: the length of the slot that is lent, live, slot, file, pages, taken, operations,
-// and the bytes of the piece that fill gets.
-pub fn record(row: &[u8], image: &[u8], b: &mut [u8]) {
-    print(row);
-    print(b"\n");
-    calls_on(row, image, b);
+fn turns(row: &[u8], image: &[u8], slot: &mut [u8]) {
+    turn(b"\n  erase: ", 0, row, image, slot);
+    turn(b"\n  fill: ", 1, row, image, slot);
+    let s = session(row, image);
+    prepare(row, s.taken, image, slot);
+    let asked = installer::ask(s, slot);
+    print_digest(b"\n  ask: vendor ", asked.vendor);
+    print_digest(b", firmware ", asked.firmware);
+    turn(b"\n  close: ", 2, row, image, slot);
+}
+
+// A row of a record: every call on it, with so many bytes of slot as the row says.
+pub fn record(row: &[u8], source: &mut [u8], b: &mut [u8]) {
+    image(b"", 8192, source);
+    let from: usize = 0;
+    let lent = number(row, rows::LENT, 0, 8192) as usize;
+    if lent <= b.len() {
+        turns(row, part(source, 0, 8192), &mut b[from..lent]);
+    }
 }
 
 // A row of begin: the length of the slot that is lent, and the file's.
 pub fn begin(row: &[u8], b: &[u8]) {
-    let slot = part(b, 0, value(row, 0) as usize);
-    let turn = installer::begin(slot, value(row, 1) as usize);
+    let slot = part(b, 0, number(row, rows::LENT, 0, 8192) as usize);
+    let turn = installer::begin(slot, number(row, rows::FILE, 0, 1540) as usize);
     let session = turn.session;
     let reply = turn.reply;
-    print(row);
-    print(b": ");
-    print_outcome(reply);
+    print_reply(reply);
     print_session(session);
-    print(b"\n");
 }

@@ -1,16 +1,15 @@
--- `cases::show::print_bytes` is safe and ends: each turn passes one of the 32 bytes.
+-- `cases::show::print_bytes` is safe and ends: each turn passes one of the bytes.
 use Prim.Native.Nat.{_≤_, _-_}
-use mathlib.Core.Path.{_≡_}
 use lib.ListN.{length}
 use borrow.Author.Needs.{needs}
 use Rattle.cases.proofs.show.print_bytes.Statement.{statement}
 use Rattle.cases.proofs.show.print_bytes.Tie as tie
 
 abbrev Inv-loop : tie.InvT-loop
-Inv-loop digest i₀ i = (i ≤ 32)
+Inv-loop label bytes i₀ i = i ≤ length bytes
 
 abbrev μ-loop : tie.MeasureT-loop
-μ-loop digest i₀ i = 32 - i
+μ-loop label bytes i₀ i = length bytes - i
 
 pub print-bytes-spec : {M : Type 1} → statement M
 print-bytes-spec =
@@ -18,9 +17,10 @@ print-bytes-spec =
     (tie.spec
     Inv-loop
     μ-loop
-    (λ c. search needs)
-    (λ c. search needs)
     (λ c κs. search needs)
+    (λ c. search needs)
+    (λ c. search needs)
+    (λ c. search needs)
     (λ c κs. search needs)
     (λ c. search needs)
     (λ c. search needs)

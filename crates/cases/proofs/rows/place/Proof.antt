@@ -1,0 +1,30 @@
+-- `cases::rows::place` is safe and ends: each turn passes a byte of the list.
+use Prim.Native.Nat.{_≤_, _-_}
+use lib.ListN.{length}
+use borrow.Author.Needs.{needs}
+use Rattle.cases.proofs.rows.place.Statement.{statement}
+use Rattle.cases.proofs.rows.place.Tie as tie
+
+abbrev Inv-loop : tie.InvT-loop
+Inv-loop word words k₀ i₀ k i = (i ≤ length words) × (k ≤ i)
+
+abbrev μ-loop : tie.MeasureT-loop
+μ-loop word words k₀ i₀ k i = length words - i
+
+pub place-spec : {M : Type 1} → statement M
+place-spec =
+    tie.close
+    (tie.spec
+    Inv-loop
+    μ-loop
+    (λ c. search needs)
+    (λ c. search needs)
+    (λ c κs. search needs)
+    (λ c κs. search needs)
+    (λ c κs. search needs)
+    (λ c. search needs)
+    (λ c. search needs)
+    (λ c. search needs)
+    (λ c. search needs)
+    (λ c. search needs)
+    (λ c. search needs))
