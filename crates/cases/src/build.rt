@@ -88,32 +88,38 @@ pub fn layout_of(row: &[u8]) -> Layout {
     }
 }
 
-// The vendor header over a pattern: no expiry, version 9.8, m of n keys, vtrust 0xFFF6, and a mask of
-// the first two keys.
-fn vendor(row: &[u8], p: Layout, b: &mut [u8]) {
+// The fixed fields of the vendor header: no expiry, version 9.8, m of n keys, vtrust 0xFFF6.
+fn vendor_fields(row: &[u8], v: u32, b: &mut [u8]) {
+    let m = number(row, rows::M, 0, 2) % 256;
+    let n = number(row, rows::KEYS, 0, 2) % 256;
     copy(b, 0, b"TRZV");
-    put_word(b, 0, 4, p.v);
-    fill(b, 8, 32, 0);
-    put_word(b, 0, 12, 0x0809);
-    set(b, 14, byte0(number(row, rows::M, 0, 2)));
-    set(b, 15, byte0(number(row, rows::KEYS, 0, 2)));
+    fill(b, 4, 32, 0);
+    put_word(b, 0, 4, v);
+    put_word(b, 0, 12, 0x0809 + 65536 * m + 16777216 * n);
     put_word(b, 0, 16, 0xFFF6);
+}
+
+// What is no pattern behind them: the string's length, its padding, and a mask of the first two keys.
+fn vendor_areas(row: &[u8], p: Layout, b: &mut [u8]) {
     set(b, p.keys as usize, byte0(number(row, rows::STRING, 0, 4)));
     fill(b, p.string as usize, p.picture as usize, 0);
     set(b, minus(p.v as usize, 65), 3);
 }
 
-// The firmware header behind v bytes over a pattern, its hashes zero: no expiry, version 1.2.3.4, fix
-// version 5.6.7.8, and a mask of the first two keys.
+// The firmware header behind v bytes, its hashes zero: no expiry, version 1.2.3.4, fix version 5.6.7.8,
+// and a mask of the first two keys.
 fn firmware(row: &[u8], v: u32, b: &mut [u8]) {
-    copy(b, v as usize, b"TRZF");
-    put_word(b, v, 4, 1024);
-    put_word(b, v, 8, 0);
+    let at = v as usize;
+    let zeros = at + 24;
+    let mask = at + 959;
+    copy(
+        b,
+        at,
+        b"TRZF\x00\x04\0\0\0\0\0\0\0\0\0\0\x01\x02\x03\x04\x05\x06\x07\x08",
+    );
     put_word(b, v, 12, number(row, rows::CODE, 0, 4));
-    put_word(b, v, 16, 0x04030201);
-    put_word(b, v, 20, 0x08070605);
-    fill(b, v as usize + 24, v as usize + 959, 0);
-    set(b, v as usize + 959, 3);
+    fill(b, zeros, mask, 0);
+    set(b, mask, 3);
 }
 
 // The hash at k, from 0, of an image that ends at a place. Counted from the image's start, chunks end
@@ -146,7 +152,9 @@ fn hashes(row: &[u8], v: u32, end: u32, b: &mut [u8]) {
 // What the row changes: a word, a byte, another byte, and a hash that becomes BLAKE2s of nothing.
 fn edit(row: &[u8], v: u32, b: &mut [u8]) {
     let none: u32 = 4294967295;
+    let hash = v as usize + 32 * (number(row, rows::NOTHING, 0, none) as usize);
     let digest = blake2s(b"");
+    copy(b, hash, &digest);
     put_word(
         b,
         number(row, rows::WORD, 0, none),
@@ -163,11 +171,6 @@ fn edit(row: &[u8], v: u32, b: &mut [u8]) {
         number(row, rows::AND, 0, none) as usize,
         byte0(number(row, rows::AND, 1, 0)),
     );
-    copy(
-        b,
-        v as usize + 32 * (number(row, rows::NOTHING, 0, none) as usize),
-        &digest,
-    );
 }
 
 // The image of a row. It answers how many bytes are lent: so many as the row says, otherwise those of
@@ -177,7 +180,8 @@ pub fn image(row: &[u8], least: u32, b: &mut [u8]) -> usize {
     let whole = if p.end < least { least } else { p.end };
     let lent = number(row, rows::LENT, 0, whole) as usize;
     pattern(b, p.end as usize);
-    vendor(row, p, b);
+    vendor_fields(row, p.v, b);
+    vendor_areas(row, p, b);
     firmware(row, p.v, b);
     hashes(row, p.v, p.end, b);
     fill(b, p.end as usize, lent, 255);

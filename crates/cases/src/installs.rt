@@ -57,9 +57,10 @@ fn due(s: Session) -> usize {
 }
 
 // One call out of turn: 0 to 2 on the slot, 3 to 5 the same on a slot that is a word shorter, 6 ask.
-// It answers 1 if the call was refused and changed nothing. The call whose turn it is is not made.
-fn refused(which: usize, row: &[u8], s: Session, slot: &mut [u8]) -> usize {
-    if s.live & (which == due(s)) {
+// It answers 1 if the call was refused and changed nothing. The call whose turn it is is not made, and
+// none where the row does not ask for them.
+fn refused(which: usize, row: &[u8], crossed: bool, s: Session, slot: &mut [u8]) -> usize {
+    if !crossed | (s.live & (which == due(s))) {
         return 0;
     }
     if which == 6 {
@@ -68,11 +69,8 @@ fn refused(which: usize, row: &[u8], s: Session, slot: &mut [u8]) -> usize {
         return if told { 0 } else { 1 };
     }
     let from: usize = 0;
-    let n = if which < 3 {
-        slot.len()
-    } else {
-        minus(slot.len(), 4)
-    };
+    let short: usize = if which < 3 { 0 } else { 4 };
+    let n = minus(slot.len(), short);
     let digest = blake2s(slot);
     let turn = call(which % 3, row, s, b"piece", &mut slot[from..n]);
     let session = turn.session;
@@ -81,13 +79,12 @@ fn refused(which: usize, row: &[u8], s: Session, slot: &mut [u8]) -> usize {
     if kept { 1 } else { 0 }
 }
 
-// How many calls are refused before the next one, each tried once, where the row asks for them.
+// How many calls are refused before the next one, each tried once.
 fn all_refused(row: &[u8], crossed: bool, s: Session, slot: &mut [u8]) -> usize {
-    let tried: usize = if crossed { 7 } else { 0 };
     let mut total: usize = 0;
     let mut which: usize = 0;
-    while which < tried {
-        total = wrapping_add_usize(total, refused(which, row, s, slot));
+    while which < 7 {
+        total = wrapping_add_usize(total, refused(which, row, crossed, s, slot));
         which += 1;
     }
     total
@@ -137,7 +134,11 @@ fn print_slot(file: &[u8], slot: &[u8]) {
     }
 }
 
-fn print_asked(s: Session, slot: &[u8]) {
+// What a full record says before close.
+fn print_full(s: Session, calls: usize, slot: &[u8]) {
+    print_number(b"pages ", s.pages);
+    print_number(b", taken ", s.taken);
+    print_number(b" by fills ", minus(calls, s.pages));
     let asked = installer::ask(s, slot);
     if is_given(asked.vendor) & is_given(asked.firmware) {
         print(b", both digests, ");
@@ -170,11 +171,7 @@ fn whole(row: &[u8], crossed: bool, file: &[u8], slot: &mut [u8]) {
     fill(slot, 0, len, 0);
     let begun = installer::begin(slot, file.len());
     let p = filled(row, crossed, begun.session, file, slot);
-    let full = p.session;
-    print_number(b"pages ", full.pages);
-    print_number(b", taken ", full.taken);
-    print_number(b" by fills ", minus(p.calls, full.pages));
-    print_asked(full, slot);
+    print_full(p.session, p.calls, slot);
     close(row, crossed, p, file, slot);
     print_answer(check_slot(slot, inputs(row)));
 }

@@ -10,7 +10,6 @@ mod show;
 mod writers;
 
 use libc::STDIN_FILENO;
-use octets::byte_at;
 use rows::item;
 use rows::kind;
 use rows::starts;
@@ -31,6 +30,10 @@ fn other(kind: usize, row: &[u8], image: &mut [u8], b: &mut [u8], spare: &mut [u
 }
 
 fn answer(kind: usize, row: &[u8], image: &mut [u8], b: &mut [u8], spare: &mut [u8]) {
+    if kind == rows::COMMENT {
+        return;
+    }
+    print(b": ");
     match kind {
         rows::FILE => checks::as_file(row, image),
         rows::SLOT => checks::as_slot(row, image),
@@ -48,10 +51,7 @@ fn line(text: &[u8], at: usize, image: &mut [u8], b: &mut [u8], spare: &mut [u8]
     }
     let row = item(text, at, b'\n');
     print(row);
-    if (row.len() != 0) & (byte_at(row, 0) != b'#') {
-        print(b": ");
-        answer(kind(row), row, image, b, spare);
-    }
+    answer(kind(row), row, image, b, spare);
     print(b"\n");
 }
 
@@ -65,11 +65,15 @@ fn lines(text: &[u8], image: &mut [u8], b: &mut [u8], spare: &mut [u8]) {
 
 // The largest image has 2,097,152 bytes, and a slot of a page more is refused. The two longest headers
 // have 66,560 bytes together.
-fn main() {
-    let mut text = io::large_buffer();
+fn answers(text: &[u8]) {
     let mut image = [0u8; 2101248];
     let mut b = [0u8; 2101248];
     let mut spare = [0u8; 66560];
+    lines(text, &mut image, &mut b, &mut spare);
+}
+
+fn main() {
+    let mut text = io::large_buffer();
     let n = io::read_full(STDIN_FILENO, &mut text);
-    lines(&text[..n], &mut image, &mut b, &mut spare);
+    answers(&text[..n]);
 }

@@ -144,14 +144,18 @@ fn print_left(before: Session, digest: [u8; 32], after: Session, slot: &[u8]) {
     print_bytes(b", slot ", &left);
 }
 
-fn turns(row: &[u8], image: &[u8], slot: &mut [u8]) {
-    turn(b"\n  erase: ", 0, row, image, slot);
-    turn(b"\n  fill: ", 1, row, image, slot);
+fn ask(row: &[u8], image: &[u8], slot: &mut [u8]) {
     let s = session(row, image);
     prepare(row, s.taken, image, slot);
     let asked = installer::ask(s, slot);
     print_digest(b"\n  ask: vendor ", asked.vendor);
     print_digest(b", firmware ", asked.firmware);
+}
+
+fn turns(row: &[u8], image: &[u8], slot: &mut [u8]) {
+    turn(b"\n  erase: ", 0, row, image, slot);
+    turn(b"\n  fill: ", 1, row, image, slot);
+    ask(row, image, slot);
     turn(b"\n  close: ", 2, row, image, slot);
 }
 

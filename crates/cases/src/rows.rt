@@ -6,6 +6,7 @@ use octets::byte_at;
 use octets::minus;
 use octets::part;
 use octets::starts_with;
+use std::num::wrapping_add_usize;
 
 // A word is told by its place in the list of `place`.
 pub const FILE: usize = 0;
@@ -80,6 +81,8 @@ pub const DIRTY: usize = 34;
 
 pub const BY: usize = 35;
 
+pub const COMMENT: usize = 98;
+
 const UNKNOWN: usize = 99;
 
 // Whether an item of a list starts at a place, where items have x between them.
@@ -116,7 +119,7 @@ room live pages taken operations piece dirty by";
             if same(item(words, i, b' '), word) {
                 return k;
             }
-            k += 1;
+            k = wrapping_add_usize(k, 1);
         }
         i += 1;
     }
@@ -127,8 +130,12 @@ fn is_digit(c: u8) -> bool {
     (b'0' <= c) & (c <= b'9')
 }
 
-// What a row does: the place of its first word. A row with a word that is not in the list is unknown.
+// What a row does: the place of its first word. A row with a word that is not in the list is unknown; a
+// blank line or one that starts with `#` is a comment.
 pub fn kind(row: &[u8]) -> usize {
+    if (row.len() == 0) | (byte_at(row, 0) == b'#') {
+        return COMMENT;
+    }
     let mut i: usize = 0;
     while i < row.len() {
         if starts(row, i, b' ') & (b'a' <= row[i]) {
@@ -141,13 +148,17 @@ pub fn kind(row: &[u8]) -> usize {
     place(item(row, 0, b' '))
 }
 
-// The number that a text of digits tells, modulo 2^32.
+// The number with one more digit, modulo 2^32.
+fn with_digit(number: u32, digit: u8) -> u32 {
+    let sum = 10 * (number as usize) + minus(digit as usize, 48);
+    (sum % 4294967296) as u32
+}
+
 fn decimal(digits: &[u8]) -> u32 {
     let mut number: u32 = 0;
     let mut i: usize = 0;
     while i < digits.len() {
-        let sum = 10 * (number as usize) + minus(digits[i] as usize, 48);
-        number = (sum % 4294967296) as u32;
+        number = with_digit(number, digits[i]);
         i += 1;
     }
     number
@@ -165,7 +176,7 @@ pub fn number(row: &[u8], word: usize, k: usize, otherwise: u32) -> u32 {
                     return decimal(item(row, i, b' '));
                 }
                 before = minus(before, 1);
-            } else {
+            } else if b'a' <= row[i] {
                 found = place(item(row, i, b' ')) == word;
                 before = k;
             }

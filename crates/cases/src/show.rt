@@ -13,12 +13,16 @@ pub fn print_number(label: &[u8], number: usize) {
     io::print_decimal(STDOUT_FILENO, number as u64);
 }
 
+fn print_byte(x: u8) {
+    io::print_hex(STDOUT_FILENO, x as u64, 2);
+}
+
 // Bytes in their order, two digits each.
 pub fn print_bytes(label: &[u8], bytes: &[u8]) {
     print(label);
     let mut i: usize = 0;
     while i < bytes.len() {
-        io::print_hex(STDOUT_FILENO, bytes[i] as u64, 2);
+        print_byte(bytes[i]);
         i += 1;
     }
 }

@@ -150,19 +150,23 @@ pub fn vendor(row: &[u8], source: &mut [u8], out: &mut [u8]) {
     told(written, part(out, 0, room));
 }
 
+// Writes the firmware header of a row.
+fn firmware_in(p: Layout, image: &[u8], out: &mut [u8]) -> Written {
+    let v = p.v as usize;
+    let code = part(image, v + 1024, p.end as usize);
+    firmware_of(rest(image, v), p.v, code, out)
+}
+
 // The same for the firmware writer.
 pub fn firmware(row: &[u8], source: &mut [u8], out: &mut [u8]) {
     image(row, 0, source);
-    let p = layout_of(row);
     let from: usize = 0;
     let room = number(row, rows::ROOM, 0, 1024) as usize;
     if out.len() < room {
         return;
     }
     fill(out, 0, room, KEPT);
-    let code = part(source, p.v as usize + 1024, p.end as usize);
-    let header = rest(source, p.v as usize);
-    let written = firmware_of(header, p.v, code, &mut out[from..room]);
+    let written = firmware_in(layout_of(row), source, &mut out[from..room]);
     told(written, part(out, 0, room));
 }
 
@@ -211,17 +215,21 @@ fn print_again(bytes: &[u8], answer: Answer, out: &mut [u8]) {
     }
 }
 
-// A row of a round trip: the image is written, checked, taken apart and written again.
-pub fn round_trip(row: &[u8], source: &mut [u8], out: &mut [u8], again: &mut [u8]) {
-    image(row, 0, source);
-    let len = out.len();
-    fill(out, 0, len, KEPT);
-    let written = write(row, source, out);
-    let bytes = part(out, 0, written);
+// What the check says of a written file, and whether it can be written again.
+fn judge(row: &[u8], bytes: &[u8], again: &mut [u8]) {
     let digest = blake2s(bytes);
     print_bytes(b", file ", &digest);
     let answer = check_file(bytes, inputs(row));
     print(b", ");
     print_answer(answer);
     print_again(bytes, answer, again);
+}
+
+// A row of a round trip: the image is written, checked, taken apart and written again.
+pub fn round_trip(row: &[u8], source: &mut [u8], out: &mut [u8], again: &mut [u8]) {
+    image(row, 0, source);
+    let len = out.len();
+    fill(out, 0, len, KEPT);
+    let written = write(row, source, out);
+    judge(row, part(out, 0, written), again);
 }

@@ -6,7 +6,7 @@ use Rattle.cases.proofs.rows.place.Statement.{statement}
 use Rattle.cases.proofs.rows.place.Tie as tie
 
 abbrev Inv-loop : tie.InvT-loop
-Inv-loop word words k₀ i₀ k i = (i ≤ length words) × (k ≤ i)
+Inv-loop word words k₀ i₀ k i = i ≤ length words
 
 abbrev μ-loop : tie.MeasureT-loop
 μ-loop word words k₀ i₀ k i = length words - i
@@ -23,7 +23,7 @@ place-spec =
     (λ c κs. search needs)
     (λ c κs. search needs)
     (λ c. search needs)
-    (λ c. search needs)
+    (λ c κs. search needs)
     (λ c. search needs)
     (λ c. search needs)
     (λ c. search needs)
