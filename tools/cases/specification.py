@@ -182,10 +182,10 @@ def questions(data):
 
 
 def trust(bits):
-    """Seconds to wait, and the features that are active: those whose bit is unset."""
-    seconds = sum(1 << k for k in range(4) if not bits >> k & 1)
-    names = {4: "red", 5: "click", 6: "string", 7: "secret"}
-    return seconds, [name for k, name in names.items() if not bits >> k & 1]
+    """The seconds to wait, and for each feature whether it is active: where its bit is unset."""
+    unset = [not bits >> k & 1 for k in range(8)]
+    return {"seconds": sum(1 << k for k in range(4) if unset[k]), "red": unset[4],
+            "click": unset[5], "string": unset[6], "secret": unset[7]}
 
 
 # The writers. Each gives the header, or the number of its refusal.

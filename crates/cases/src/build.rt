@@ -5,14 +5,6 @@
 // would is not made.
 use crate::rows;
 use crate::rows::number;
-use blake2s::blake2s;
-use octets::minus;
-use octets::part;
-use octets::put::byte0;
-use octets::put::byte1;
-use octets::put::byte2;
-use octets::put::byte3;
-use octets::put::put_bytes;
 
 pub fn set(b: &mut [u8], at: usize, x: u8) {
     if at < b.len() {
@@ -47,16 +39,16 @@ pub fn copy(b: &mut [u8], from: usize, bytes: &[u8]) {
     if b.len() - from < bytes.len() {
         return;
     }
-    put_bytes(b, from, bytes);
+    octets::put::put_bytes(b, from, bytes);
 }
 
 // A little-endian word at an offset of the header that starts at a place.
 fn put_word(b: &mut [u8], start: u32, offset: u32, x: u32) {
     let at = start as usize + offset as usize;
-    set(b, at, byte0(x));
-    set(b, at + 1, byte1(x));
-    set(b, at + 2, byte2(x));
-    set(b, at + 3, byte3(x));
+    set(b, at, octets::put::byte0(x));
+    set(b, at + 1, octets::put::byte1(x));
+    set(b, at + 2, octets::put::byte2(x));
+    set(b, at + 3, octets::put::byte3(x));
 }
 
 // A number modulo 2^32.
@@ -64,27 +56,31 @@ pub fn narrow(x: usize) -> u32 {
     (x % 4294967296) as u32
 }
 
-// The places of an image: where its vendor header, its keys and its string end, where its picture
-// starts, and where the image ends.
+// The places of an image: where its vendor header ends, its keys, its string from and to, its picture,
+// its code, and where the image ends.
 pub struct Layout {
     pub v: u32,
-    pub keys: u32,
-    pub string: u32,
-    pub picture: u32,
-    pub end: u32,
+    pub keys: usize,
+    pub string: usize,
+    pub padding: usize,
+    pub picture: usize,
+    pub code: usize,
+    pub end: usize,
 }
 
 pub fn layout_of(row: &[u8]) -> Layout {
     let v = number(row, rows::V, 0, 512);
     let keys = 32 + 32 * (number(row, rows::KEYS, 0, 2) as usize);
-    let string = keys + 1 + number(row, rows::STRING, 0, 4) as usize;
-    let end = v as usize + 1024 + number(row, rows::CODE, 0, 4) as usize;
+    let padding = keys + 1 + number(row, rows::STRING, 0, 4) as usize;
+    let code = v as usize + 1024;
     Layout {
         v,
-        keys: narrow(keys),
-        string: narrow(string),
-        picture: narrow((string + 3) / 4 * 4),
-        end: narrow(end),
+        keys,
+        string: keys + 1,
+        padding,
+        picture: (padding + 3) / 4 * 4,
+        code,
+        end: code + number(row, rows::CODE, 0, 4) as usize,
     }
 }
 
@@ -101,9 +97,13 @@ fn vendor_fields(row: &[u8], v: u32, b: &mut [u8]) {
 
 // What is no pattern behind them: the string's length, its padding, and a mask of the first two keys.
 fn vendor_areas(row: &[u8], p: Layout, b: &mut [u8]) {
-    set(b, p.keys as usize, byte0(number(row, rows::STRING, 0, 4)));
-    fill(b, p.string as usize, p.picture as usize, 0);
-    set(b, minus(p.v as usize, 65), 3);
+    set(
+        b,
+        p.keys,
+        octets::put::byte0(number(row, rows::STRING, 0, 4)),
+    );
+    fill(b, p.padding, p.picture, 0);
+    set(b, octets::minus(p.code, 1089), 3);
 }
 
 // The firmware header behind v bytes, its hashes zero: no expiry, version 1.2.3.4, fix version 5.6.7.8,
@@ -122,69 +122,77 @@ fn firmware(row: &[u8], v: u32, b: &mut [u8]) {
     set(b, mask, 3);
 }
 
-// The hash at k, from 0, of an image that ends at a place. Counted from the image's start, chunks end
-// at the multiples of 131,072, since chunk 1 has room for 131,072 - 1,024 - v bytes.
-fn hash(b: &mut [u8], v: u32, end: u32, k: u32) {
+// The hash at k, from 0, of an image whose code stands from a place to another. Counted from the
+// image's start, chunks end at the multiples of 131,072, since chunk 1 has room for 131,072 - 1,024 - v
+// bytes.
+fn hash(b: &mut [u8], code: usize, end: usize, k: u32) {
     let start = 131072 * (k as usize);
-    let from = if k == 0 { v as usize + 1024 } else { start };
-    let limit = start + 131072;
-    let to = if (end as usize) < limit {
-        end as usize
-    } else {
-        limit
-    };
+    let at = octets::minus(code, 992) % 4294967296 + 32 * (k as usize);
+    let from = if start < code { code } else { start };
+    let to = octets::minus(end, octets::minus(end, start + 131072));
     if from < to {
-        let digest = blake2s(part(b, from, to));
-        copy(b, v as usize + 32 + 32 * (k as usize), &digest);
+        let digest = blake2s::blake2s(octets::part(b, from, to));
+        copy(b, at, &digest);
     }
 }
 
 // The first hashes, so many as the row says, otherwise all.
-fn hashes(row: &[u8], v: u32, end: u32, b: &mut [u8]) {
+fn hashes(row: &[u8], code: usize, end: usize, b: &mut [u8]) {
     let count = number(row, rows::HASHED, 0, 16);
     let mut k: u32 = 0;
     while k < count {
-        hash(b, v, end, k);
+        hash(b, code, end, k);
         k += 1;
     }
 }
 
-// What the row changes: a word, a byte, another byte, and a hash that becomes BLAKE2s of nothing.
+// A byte that the row changes.
+fn edit_byte(row: &[u8], word: usize, b: &mut [u8]) {
+    let at = number(row, word, 0, 4294967295) as usize;
+    set(b, at, octets::put::byte0(number(row, word, 1, 0)));
+}
+
+// A hash that becomes BLAKE2s of nothing.
+fn edit_hash(row: &[u8], v: u32, b: &mut [u8]) {
+    let at = v as usize + 32 * (number(row, rows::NOTHING, 0, 4294967295) as usize);
+    let digest = blake2s::blake2s(b"");
+    copy(b, at, &digest);
+}
+
+// All that the row changes.
 fn edit(row: &[u8], v: u32, b: &mut [u8]) {
-    let none: u32 = 4294967295;
-    let hash = v as usize + 32 * (number(row, rows::NOTHING, 0, none) as usize);
-    let digest = blake2s(b"");
-    copy(b, hash, &digest);
+    edit_hash(row, v, b);
     put_word(
         b,
-        number(row, rows::WORD, 0, none),
+        number(row, rows::WORD, 0, 4294967295),
         0,
         number(row, rows::WORD, 1, 0),
     );
-    set(
-        b,
-        number(row, rows::BYTE, 0, none) as usize,
-        byte0(number(row, rows::BYTE, 1, 0)),
-    );
-    set(
-        b,
-        number(row, rows::AND, 0, none) as usize,
-        byte0(number(row, rows::AND, 1, 0)),
-    );
+    edit_byte(row, rows::BYTE, b);
+    edit_byte(row, rows::AND, b);
 }
 
-// The image of a row. It answers how many bytes are lent: so many as the row says, otherwise those of
-// the image, and not fewer than `least`. What is lent behind the image is erased.
-pub fn image(row: &[u8], least: u32, b: &mut [u8]) -> usize {
-    let p = layout_of(row);
-    let whole = if p.end < least { least } else { p.end };
-    let lent = number(row, rows::LENT, 0, whole) as usize;
-    pattern(b, p.end as usize);
+fn headers(row: &[u8], p: Layout, b: &mut [u8]) {
     vendor_fields(row, p.v, b);
     vendor_areas(row, p, b);
     firmware(row, p.v, b);
-    hashes(row, p.v, p.end, b);
-    fill(b, p.end as usize, lent, 255);
+    hashes(row, p.code, p.end, b);
+}
+
+// How many bytes a row lends: so many as it says, otherwise those of the image, and not fewer than
+// `least`.
+fn lent_of(row: &[u8], end: usize, least: usize) -> usize {
+    let more = std::num::wrapping_add_usize(end, octets::minus(least, end));
+    number(row, rows::LENT, 0, narrow(more)) as usize
+}
+
+// The image of a row. It answers how many bytes are lent. Those behind the image are erased.
+pub fn lend(row: &[u8], least: usize, b: &mut [u8]) -> usize {
+    let p = layout_of(row);
+    let lent = lent_of(row, p.end, least);
+    pattern(b, p.end);
+    headers(row, p, b);
+    fill(b, p.end, lent, 255);
     edit(row, p.v, b);
     lent
 }

@@ -2,52 +2,51 @@
 // numbers cannot be. The slot holds what the record says: the words stored so far, and erased bytes.
 use crate::build::copy;
 use crate::build::fill;
-use crate::build::image;
+use crate::build::lend;
 use crate::build::set;
 use crate::checks::inputs;
 use crate::checks::print_digest;
 use crate::rows;
 use crate::rows::number;
-use crate::show::print;
-use crate::show::print_bytes;
-use crate::show::print_number;
-use crate::show::print_refusal;
-use blake2s::blake2s;
+use crate::show;
 use installer::Reply;
 use installer::Session;
 use installer::Turn;
-use octets::byte_at;
-use octets::part;
-use octets::rest;
-use octets::same_digest;
-use octets::starts_with;
+
+fn print_plain(reply: Reply) {
+    match reply {
+        Reply::Begun => show::print(b"begun"),
+        Reply::Erased => show::print(b"erased"),
+        _ => show::print(b"Done"),
+    }
+}
 
 pub fn print_reply(reply: Reply) {
     match reply {
-        Reply::Begun => print(b"begun"),
-        Reply::Erased => print(b"erased"),
-        Reply::Took(count) => print_number(b"took ", count),
-        Reply::Done => print(b"Done"),
-        Reply::Refused(number) => print_number(b"refused ", number as usize),
-        Reply::Rejected(r) => print_refusal(r),
+        Reply::Took(count) => show::print_number(b"took ", count),
+        Reply::Refused(number) => show::print_number(b"refused ", number as usize),
+        Reply::Rejected(r) => show::print_refusal(r),
+        _ => print_plain(reply),
     }
 }
 
 fn print_session(s: Session) {
-    if s.live {
-        print(b", open");
-    } else {
-        print(b", over");
-    }
-    print_number(b", slot ", s.slot);
-    print_number(b" file ", s.file);
-    print_number(b" pages ", s.pages);
-    print_number(b" taken ", s.taken);
-    print_number(b" operations ", s.operations);
     let first = s.first;
     let held = s.held;
-    print_bytes(b" first ", &first);
-    print_bytes(b" held ", &held);
+    let numbers = [
+        s.live as usize,
+        s.slot,
+        s.file,
+        s.pages,
+        s.taken,
+        s.operations,
+    ];
+    show::print_numbers(
+        b", live # slot # file # pages # taken # operations ",
+        &numbers,
+    );
+    show::print_bytes(b" first ", &first);
+    show::print_bytes(b" held ", &held);
 }
 
 fn same_session(a: Session, b: Session) -> bool {
@@ -55,7 +54,7 @@ fn same_session(a: Session, b: Session) -> bool {
     let held = a.held;
     let other_first = b.first;
     let other_held = b.held;
-    let words = starts_with(&first, &other_first) & starts_with(&held, &other_held);
+    let words = octets::starts_with(&first, &other_first) & octets::starts_with(&held, &other_held);
     (a.live == b.live)
         & (a.slot == b.slot)
         & (a.file == b.file)
@@ -63,11 +62,6 @@ fn same_session(a: Session, b: Session) -> bool {
         & (a.taken == b.taken)
         & (a.operations == b.operations)
         & words
-}
-
-// Whether a call left the record and the slot as they were before it.
-pub fn unchanged(before: Session, digest: [u8; 32], after: Session, slot: &[u8]) -> bool {
-    same_session(before, after) & same_digest(digest, blake2s(slot))
 }
 
 // One of the calls that may change a slot: erase 0, fill 1, close 2.
@@ -81,13 +75,27 @@ pub fn call(which: usize, row: &[u8], s: Session, piece: &[u8], slot: &mut [u8])
     installer::close(s, inputs(row), slot)
 }
 
+// A call, and whether it left the record and the slot as they were.
+pub struct Attempt {
+    pub turn: Turn,
+    pub kept: bool,
+}
+
+pub fn tried(which: usize, row: &[u8], s: Session, piece: &[u8], slot: &mut [u8]) -> Attempt {
+    let before = blake2s::blake2s(slot);
+    let turn = call(which, row, s, piece, slot);
+    let session = turn.session;
+    let kept = same_session(s, session) & octets::same_digest(before, blake2s::blake2s(slot));
+    Attempt { turn, kept }
+}
+
 fn word_at(bytes: &[u8], at: usize) -> [u8; 4] {
-    let tail = rest(bytes, at);
+    let tail = octets::rest(bytes, at);
     [
-        byte_at(tail, 0),
-        byte_at(tail, 1),
-        byte_at(tail, 2),
-        byte_at(tail, 3),
+        octets::byte_at(tail, 0),
+        octets::byte_at(tail, 1),
+        octets::byte_at(tail, 2),
+        octets::byte_at(tail, 3),
     ]
 }
 
@@ -112,36 +120,37 @@ fn session(row: &[u8], image: &[u8]) -> Session {
 fn prepare(row: &[u8], taken: usize, image: &[u8], slot: &mut [u8]) {
     let len = slot.len();
     fill(slot, 0, len, 255);
-    copy(slot, 4, part(image, 4, taken / 4 * 4));
+    copy(slot, 4, octets::part(image, 4, taken / 4 * 4));
     set(slot, number(row, rows::DIRTY, 0, 4294967295) as usize, 0);
 }
 
-// One call on the record of a row, what it answered, and the record and the slot that it left.
+// What a call answered, and the record and the slot that it left.
+fn print_turn(label: &[u8], turn: Turn, kept: bool, slot: &[u8]) {
+    let session = turn.session;
+    let reply = turn.reply;
+    show::print(label);
+    print_reply(reply);
+    if kept {
+        show::print(b", as before");
+        return;
+    }
+    print_session(session);
+    let left = blake2s::blake2s(slot);
+    show::print_bytes(b", slot ", &left);
+}
+
+// One call on the record of a row.
 fn turn(label: &[u8], which: usize, row: &[u8], image: &[u8], slot: &mut [u8]) {
-    let before = session(row, image);
-    prepare(row, before.taken, image, slot);
-    let digest = blake2s(slot);
-    let piece = part(
-        rest(image, before.taken),
+    let s = session(row, image);
+    prepare(row, s.taken, image, slot);
+    let piece = octets::part(
+        octets::rest(image, s.taken),
         0,
         number(row, rows::PIECE, 0, 4) as usize,
     );
-    let after = call(which, row, before, piece, slot);
-    let session = after.session;
-    let reply = after.reply;
-    print(label);
-    print_reply(reply);
-    print_left(before, digest, session, slot);
-}
-
-fn print_left(before: Session, digest: [u8; 32], after: Session, slot: &[u8]) {
-    if unchanged(before, digest, after, slot) {
-        print(b", as before");
-        return;
-    }
-    print_session(after);
-    let left = blake2s(slot);
-    print_bytes(b", slot ", &left);
+    let t = tried(which, row, s, piece, slot);
+    let turn = t.turn;
+    print_turn(label, turn, t.kept, slot);
 }
 
 fn ask(row: &[u8], image: &[u8], slot: &mut [u8]) {
@@ -161,17 +170,17 @@ fn turns(row: &[u8], image: &[u8], slot: &mut [u8]) {
 
 // A row of a record: every call on it, with so many bytes of slot as the row says.
 pub fn record(row: &[u8], source: &mut [u8], b: &mut [u8]) {
-    image(b"", 8192, source);
+    lend(b"", 8192, source);
     let from: usize = 0;
     let lent = number(row, rows::LENT, 0, 8192) as usize;
     if lent <= b.len() {
-        turns(row, part(source, 0, 8192), &mut b[from..lent]);
+        turns(row, octets::part(source, 0, 8192), &mut b[from..lent]);
     }
 }
 
 // A row of begin: the length of the slot that is lent, and the file's.
 pub fn begin(row: &[u8], b: &[u8]) {
-    let slot = part(b, 0, number(row, rows::LENT, 0, 8192) as usize);
+    let slot = octets::part(b, 0, number(row, rows::LENT, 0, 8192) as usize);
     let turn = installer::begin(slot, number(row, rows::FILE, 0, 1540) as usize);
     let session = turn.session;
     let reply = turn.reply;

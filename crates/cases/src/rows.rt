@@ -2,11 +2,6 @@
 // what is done; each further word is followed by its numbers, and stands in for a usual number where
 // it is left out. A word that starts with a capital letter is a label, and says which step of the
 // specification the row is about.
-use octets::byte_at;
-use octets::minus;
-use octets::part;
-use octets::starts_with;
-use std::num::wrapping_add_usize;
 
 // A word is told by its place in the list of `place`.
 pub const FILE: usize = 0;
@@ -87,7 +82,7 @@ const UNKNOWN: usize = 99;
 
 // Whether an item of a list starts at a place, where items have x between them.
 pub fn starts(list: &[u8], at: usize, x: u8) -> bool {
-    (at == 0) | (byte_at(list, minus(at, 1)) == x)
+    (at == 0) | (octets::byte_at(list, octets::minus(at, 1)) == x)
 }
 
 // The item that starts at a place.
@@ -95,15 +90,15 @@ pub fn item(list: &[u8], at: usize, x: u8) -> &[u8] {
     let mut i = at;
     while i < list.len() {
         if list[i] == x {
-            return part(list, at, i);
+            return octets::part(list, at, i);
         }
         i += 1;
     }
-    part(list, at, i)
+    octets::part(list, at, i)
 }
 
 fn same(a: &[u8], b: &[u8]) -> bool {
-    (a.len() == b.len()) & starts_with(a, b)
+    (a.len() == b.len()) & octets::starts_with(a, b)
 }
 
 // The place of a word in the list of words.
@@ -119,7 +114,7 @@ room live pages taken operations piece dirty by";
             if same(item(words, i, b' '), word) {
                 return k;
             }
-            k = wrapping_add_usize(k, 1);
+            k = std::num::wrapping_add_usize(k, 1);
         }
         i += 1;
     }
@@ -133,7 +128,7 @@ fn is_digit(c: u8) -> bool {
 // What a row does: the place of its first word. A row with a word that is not in the list is unknown; a
 // blank line or one that starts with `#` is a comment.
 pub fn kind(row: &[u8]) -> usize {
-    if (row.len() == 0) | (byte_at(row, 0) == b'#') {
+    if (row.len() == 0) | (octets::byte_at(row, 0) == b'#') {
         return COMMENT;
     }
     let mut i: usize = 0;
@@ -150,7 +145,7 @@ pub fn kind(row: &[u8]) -> usize {
 
 // The number with one more digit, modulo 2^32.
 fn with_digit(number: u32, digit: u8) -> u32 {
-    let sum = 10 * (number as usize) + minus(digit as usize, 48);
+    let sum = 10 * (number as usize) + octets::minus(digit as usize, 48);
     (sum % 4294967296) as u32
 }
 
@@ -175,7 +170,7 @@ pub fn number(row: &[u8], word: usize, k: usize, otherwise: u32) -> u32 {
                 if found & (before == 0) {
                     return decimal(item(row, i, b' '));
                 }
-                before = minus(before, 1);
+                before = octets::minus(before, 1);
             } else if b'a' <= row[i] {
                 found = place(item(row, i, b' ')) == word;
                 before = k;

@@ -11,6 +11,5 @@ answers-spec =
     (tie.spec
     (λ c. sym (length-replicate {0} {A = ℕ} 2101248 0))
     (λ c. sym (length-replicate {0} {A = ℕ} 2101248 0))
-    (λ c. sym (length-replicate {0} {A = ℕ} 66560 0))
     (λ c κs. tt)
     (λ c. tt))

@@ -7,10 +7,10 @@ use Rattle.cases.proofs.lines.Statement.{statement}
 use Rattle.cases.proofs.lines.Tie as tie
 
 abbrev Inv-loop : tie.InvT-loop
-Inv-loop text image₀ b₀ spare₀ i₀ image b spare i = (i ≤ length text) × (length image ≡ length image₀) × (length b ≡ length b₀) × (length spare ≡ length spare₀)
+Inv-loop text image₀ b₀ i₀ image b i = (i ≤ length text) × (length image ≡ length image₀) × (length b ≡ length b₀)
 
 abbrev μ-loop : tie.MeasureT-loop
-μ-loop text image₀ b₀ spare₀ i₀ image b spare i = length text - i
+μ-loop text image₀ b₀ i₀ image b i = length text - i
 
 pub lines-spec : {M : Type 1} → statement M
 lines-spec =
@@ -20,7 +20,6 @@ lines-spec =
     μ-loop
     (λ c. search needs)
     (λ c κs. search needs)
-    (λ c. search needs)
     (λ c. search needs)
     (λ c. search needs)
     (λ c. search needs)

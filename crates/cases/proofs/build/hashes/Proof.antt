@@ -7,10 +7,10 @@ use Rattle.cases.proofs.build.hashes.Statement.{statement}
 use Rattle.cases.proofs.build.hashes.Tie as tie
 
 abbrev Inv-loop : tie.InvT-loop
-Inv-loop row v end b₀ count k₀ b k = length b ≡ length b₀
+Inv-loop row code end b₀ count k₀ b k = length b ≡ length b₀
 
 abbrev μ-loop : tie.MeasureT-loop
-μ-loop row v end b₀ count k₀ b k = count - k
+μ-loop row code end b₀ count k₀ b k = count - k
 
 pub hashes-spec : {M : Type 1} → statement M
 hashes-spec =
