@@ -69,9 +69,9 @@ pub struct Layout {
 }
 
 pub fn layout_of(row: &[u8]) -> Layout {
-    let v = number(row, rows::V, 0, 512);
-    let keys = 32 + 32 * (number(row, rows::KEYS, 0, 2) as usize);
-    let padding = keys + 1 + number(row, rows::STRING, 0, 4) as usize;
+    let v = number(row, rows::V, 1, 512);
+    let keys = 32 + 32 * (number(row, rows::KEYS, 1, 2) as usize);
+    let padding = keys + 1 + number(row, rows::STRING, 1, 4) as usize;
     let code = v as usize + 1024;
     Layout {
         v,
@@ -80,14 +80,14 @@ pub fn layout_of(row: &[u8]) -> Layout {
         padding,
         picture: (padding + 3) / 4 * 4,
         code,
-        end: code + number(row, rows::CODE, 0, 4) as usize,
+        end: code + number(row, rows::CODE, 1, 4) as usize,
     }
 }
 
 // The fixed fields of the vendor header: no expiry, version 9.8, m of n keys, vtrust 0xFFF6.
 fn vendor_fields(row: &[u8], v: u32, b: &mut [u8]) {
-    let m = number(row, rows::M, 0, 2) % 256;
-    let n = number(row, rows::KEYS, 0, 2) % 256;
+    let m = number(row, rows::M, 1, 2) % 256;
+    let n = number(row, rows::KEYS, 1, 2) % 256;
     copy(b, 0, b"TRZV");
     fill(b, 4, 32, 0);
     put_word(b, 0, 4, v);
@@ -100,7 +100,7 @@ fn vendor_areas(row: &[u8], p: Layout, b: &mut [u8]) {
     set(
         b,
         p.keys,
-        octets::put::byte0(number(row, rows::STRING, 0, 4)),
+        octets::put::byte0(number(row, rows::STRING, 1, 4)),
     );
     fill(b, p.padding, p.picture, 0);
     set(b, octets::minus(p.code, 1089), 3);
@@ -117,7 +117,7 @@ fn firmware(row: &[u8], v: u32, b: &mut [u8]) {
         at,
         b"TRZF\x00\x04\0\0\0\0\0\0\0\0\0\0\x01\x02\x03\x04\x05\x06\x07\x08",
     );
-    put_word(b, v, 12, number(row, rows::CODE, 0, 4));
+    put_word(b, v, 12, number(row, rows::CODE, 1, 4));
     fill(b, zeros, mask, 0);
     set(b, mask, 3);
 }
@@ -138,7 +138,7 @@ fn hash(b: &mut [u8], code: usize, end: usize, k: u32) {
 
 // The first hashes, so many as the row says, otherwise all.
 fn hashes(row: &[u8], code: usize, end: usize, b: &mut [u8]) {
-    let count = number(row, rows::HASHED, 0, 16);
+    let count = number(row, rows::HASHED, 1, 16);
     let mut k: u32 = 0;
     while k < count {
         hash(b, code, end, k);
@@ -148,13 +148,19 @@ fn hashes(row: &[u8], code: usize, end: usize, b: &mut [u8]) {
 
 // A byte that the row changes.
 fn edit_byte(row: &[u8], word: usize, b: &mut [u8]) {
-    let at = number(row, word, 0, 4294967295) as usize;
-    set(b, at, octets::put::byte0(number(row, word, 1, 0)));
+    let at = number(row, word, 1, 4294967295) as usize;
+    set(b, at, octets::put::byte0(number(row, word, 2, 0)));
+}
+
+// A word that the row changes.
+fn edit_word(row: &[u8], b: &mut [u8]) {
+    let at = number(row, rows::WORD, 1, 4294967295);
+    put_word(b, at, 0, number(row, rows::WORD, 2, 0));
 }
 
 // A hash that becomes BLAKE2s of nothing.
 fn edit_hash(row: &[u8], v: u32, b: &mut [u8]) {
-    let at = v as usize + 32 * (number(row, rows::NOTHING, 0, 4294967295) as usize);
+    let at = v as usize + 32 * (number(row, rows::NOTHING, 1, 4294967295) as usize);
     let digest = blake2s::blake2s(b"");
     copy(b, at, &digest);
 }
@@ -162,12 +168,7 @@ fn edit_hash(row: &[u8], v: u32, b: &mut [u8]) {
 // All that the row changes.
 fn edit(row: &[u8], v: u32, b: &mut [u8]) {
     edit_hash(row, v, b);
-    put_word(
-        b,
-        number(row, rows::WORD, 0, 4294967295),
-        0,
-        number(row, rows::WORD, 1, 0),
-    );
+    edit_word(row, b);
     edit_byte(row, rows::BYTE, b);
     edit_byte(row, rows::AND, b);
 }
@@ -183,16 +184,22 @@ fn headers(row: &[u8], p: Layout, b: &mut [u8]) {
 // `least`.
 fn lent_of(row: &[u8], end: usize, least: usize) -> usize {
     let more = std::num::wrapping_add_usize(end, octets::minus(least, end));
-    number(row, rows::LENT, 0, narrow(more)) as usize
+    number(row, rows::LENT, 1, narrow(more)) as usize
 }
 
-// The image of a row. It answers how many bytes are lent. Those behind the image are erased.
-pub fn lend(row: &[u8], least: usize, b: &mut [u8]) -> usize {
+// The image of a row, at the start of a buffer. The bytes behind it are erased, a page or as many as
+// are lent.
+pub fn build(row: &[u8], b: &mut [u8]) {
     let p = layout_of(row);
-    let lent = lent_of(row, p.end, least);
     pattern(b, p.end);
     headers(row, p, b);
-    fill(b, p.end, lent, 255);
+    fill(b, p.end, 8192, 255);
+    fill(b, p.end, lent_of(row, p.end, 8192), 255);
     edit(row, p.v, b);
-    lent
+}
+
+// What a row lends of the buffer.
+pub fn lent<'a>(row: &[u8], least: usize, b: &'a [u8]) -> &'a [u8] {
+    let p = layout_of(row);
+    octets::part(b, 0, lent_of(row, p.end, least))
 }

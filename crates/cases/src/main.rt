@@ -10,48 +10,45 @@ mod show;
 mod writers;
 
 use libc::STDIN_FILENO;
-use rows::item;
-use rows::kind;
-use rows::starts;
-use show::print;
 
 // The answer to a row, by the module that its first word stands for.
-fn answer(kind: usize, row: &[u8], image: &mut [u8], b: &mut [u8]) {
-    if kind <= rows::TRUST {
-        checks::answer(kind, row, image);
-    } else if kind <= rows::FIRMWARE {
-        writers::answer(kind, row, image, b);
-    } else if kind <= rows::CROSSED {
-        installs::answer(kind, row, image, b);
-    } else {
-        print(b"unknown row");
+fn answer(kind: usize, row: &[u8], image: &[u8], b: &mut [u8]) {
+    match kind {
+        rows::FILE..=rows::TRUST => checks::answer(kind, row, image),
+        rows::ROUNDTRIP..=rows::FIRMWARE => writers::answer(kind, row, image, b),
+        rows::BEGIN..=rows::CROSSED => installs::answer(kind, row, image, b),
+        _ => show::word(rows::UNKNOWN),
     }
 }
 
 fn row(row: &[u8], image: &mut [u8], b: &mut [u8]) {
-    let kind = kind(row);
-    if kind == rows::COMMENT {
+    show::text(b":");
+    build::build(row, image);
+    answer(rows::kind(row), row, image, b);
+}
+
+// A line: a blank one or one that starts with `#` is a comment.
+fn line(line: &[u8], image: &mut [u8], b: &mut [u8]) {
+    show::text(line);
+    if (line.len() == 0) | (octets::byte_at(line, 0) == b'#') {
         return;
     }
-    print(b": ");
-    answer(kind, row, image, b);
+    row(line, image, b);
 }
 
 // The line that starts at a place, if one does.
-fn line(text: &[u8], at: usize, image: &mut [u8], b: &mut [u8]) {
-    if !starts(text, at, b'\n') {
+fn line_at(text: &[u8], at: usize, image: &mut [u8], b: &mut [u8]) {
+    if !rows::starts(text, at, b'\n') {
         return;
     }
-    let line = item(text, at, b'\n');
-    print(line);
-    row(line, image, b);
-    print(b"\n");
+    line(rows::item(text, at, b'\n'), image, b);
+    show::text(b"\n");
 }
 
 fn lines(text: &[u8], image: &mut [u8], b: &mut [u8]) {
     let mut i: usize = 0;
     while i < text.len() {
-        line(text, i, image, b);
+        line_at(text, i, image, b);
         i += 1;
     }
 }

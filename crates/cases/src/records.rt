@@ -2,7 +2,6 @@
 // numbers cannot be. The slot holds what the record says: the words stored so far, and erased bytes.
 use crate::build::copy;
 use crate::build::fill;
-use crate::build::lend;
 use crate::build::set;
 use crate::checks::inputs;
 use crate::checks::print_digest;
@@ -12,49 +11,53 @@ use crate::show;
 use installer::Reply;
 use installer::Session;
 use installer::Turn;
-
-fn print_plain(reply: Reply) {
-    match reply {
-        Reply::Begun => show::print(b"begun"),
-        Reply::Erased => show::print(b"erased"),
-        _ => show::print(b"Done"),
-    }
-}
+use octets::byte_at;
+use octets::part;
+use octets::rest;
+use octets::starts_with;
 
 pub fn print_reply(reply: Reply) {
     match reply {
-        Reply::Took(count) => show::print_number(b"took ", count),
-        Reply::Refused(number) => show::print_number(b"refused ", number as usize),
-        Reply::Rejected(r) => show::print_refusal(r),
-        _ => print_plain(reply),
+        Reply::Begun => show::word(rows::BEGUN),
+        Reply::Erased => show::word(rows::ERASED),
+        Reply::Took(count) => show::number(rows::TOOK, count),
+        Reply::Done => show::word(rows::DONE),
+        Reply::Refused(number) => show::number(rows::REFUSED, number as usize),
+        Reply::Rejected(r) => show::refusal(r),
     }
+}
+
+fn print_words(first: [u8; 4], held: [u8; 4]) {
+    show::bytes(rows::FIRST, &first);
+    show::bytes(rows::HELD, &held);
 }
 
 fn print_session(s: Session) {
     let first = s.first;
     let held = s.held;
-    let numbers = [
-        s.live as usize,
-        s.slot,
-        s.file,
-        s.pages,
-        s.taken,
-        s.operations,
-    ];
-    show::print_numbers(
-        b", live # slot # file # pages # taken # operations ",
-        &numbers,
-    );
-    show::print_bytes(b" first ", &first);
-    show::print_bytes(b" held ", &held);
+    show::number(rows::LIVE, s.live as usize);
+    show::number(rows::SLOT, s.slot);
+    show::number(rows::FILE, s.file);
+    show::number(rows::PAGES, s.pages);
+    show::number(rows::TAKEN, s.taken);
+    show::number(rows::OPERATIONS, s.operations);
+    print_words(first, held);
 }
 
-fn same_session(a: Session, b: Session) -> bool {
+fn same_word(a: [u8; 4], b: [u8; 4]) -> bool {
+    starts_with(&a, &b)
+}
+
+fn same_words(a: Session, b: Session) -> bool {
     let first = a.first;
     let held = a.held;
     let other_first = b.first;
     let other_held = b.held;
-    let words = octets::starts_with(&first, &other_first) & octets::starts_with(&held, &other_held);
+    same_word(first, other_first) & same_word(held, other_held)
+}
+
+fn same_session(a: Session, b: Session) -> bool {
+    let words = same_words(a, b);
     (a.live == b.live)
         & (a.slot == b.slot)
         & (a.file == b.file)
@@ -64,12 +67,12 @@ fn same_session(a: Session, b: Session) -> bool {
         & words
 }
 
-// One of the calls that may change a slot: erase 0, fill 1, close 2.
+// One of the calls that may change a slot.
 pub fn call(which: usize, row: &[u8], s: Session, piece: &[u8], slot: &mut [u8]) -> Turn {
-    if which == 0 {
+    if which == rows::ERASE {
         return installer::erase(s, slot);
     }
-    if which == 1 {
+    if which == rows::FILL {
         return installer::fill(s, piece, slot);
     }
     installer::close(s, inputs(row), slot)
@@ -84,104 +87,114 @@ pub struct Attempt {
 pub fn tried(which: usize, row: &[u8], s: Session, piece: &[u8], slot: &mut [u8]) -> Attempt {
     let before = blake2s::blake2s(slot);
     let turn = call(which, row, s, piece, slot);
+    let same = octets::same_digest(before, blake2s::blake2s(slot));
     let session = turn.session;
-    let kept = same_session(s, session) & octets::same_digest(before, blake2s::blake2s(slot));
-    Attempt { turn, kept }
+    Attempt {
+        turn,
+        kept: same & same_session(s, session),
+    }
 }
 
 fn word_at(bytes: &[u8], at: usize) -> [u8; 4] {
-    let tail = octets::rest(bytes, at);
+    let tail = rest(bytes, at);
     [
-        octets::byte_at(tail, 0),
-        octets::byte_at(tail, 1),
-        octets::byte_at(tail, 2),
-        octets::byte_at(tail, 3),
+        byte_at(tail, 0),
+        byte_at(tail, 1),
+        byte_at(tail, 2),
+        byte_at(tail, 3),
     ]
 }
 
 // The record of a row.
 fn session(row: &[u8], image: &[u8]) -> Session {
-    let taken = number(row, rows::TAKEN, 0, 0) as usize;
+    let taken = number(row, rows::TAKEN, 1, 0) as usize;
     let first = word_at(image, 0);
     let held = word_at(image, taken / 4 * 4);
     Session {
-        live: number(row, rows::LIVE, 0, 1) == 1,
-        slot: number(row, rows::SLOT, 0, 8192) as usize,
-        file: number(row, rows::FILE, 0, 1540) as usize,
-        pages: number(row, rows::PAGES, 0, 2) as usize,
+        live: number(row, rows::LIVE, 1, 1) == 1,
+        slot: number(row, rows::SLOT, 1, 8192) as usize,
+        file: number(row, rows::FILE, 1, 1540) as usize,
+        pages: number(row, rows::PAGES, 1, 2) as usize,
         taken,
-        operations: number(row, rows::OPERATIONS, 0, 2) as usize,
+        operations: number(row, rows::OPERATIONS, 1, 2) as usize,
         first,
         held,
     }
 }
 
 // The slot of a row. Where the row names a place, that byte is 0, so that its word is not erased.
-fn prepare(row: &[u8], taken: usize, image: &[u8], slot: &mut [u8]) {
+fn prepare(row: &[u8], image: &[u8], slot: &mut [u8]) {
+    let taken = number(row, rows::TAKEN, 1, 0) as usize;
     let len = slot.len();
     fill(slot, 0, len, 255);
-    copy(slot, 4, octets::part(image, 4, taken / 4 * 4));
-    set(slot, number(row, rows::DIRTY, 0, 4294967295) as usize, 0);
+    copy(slot, 4, part(image, 4, taken / 4 * 4));
+    set(slot, number(row, rows::DIRTY, 1, 4294967295) as usize, 0);
+}
+
+// The next bytes of the image.
+fn piece<'a>(row: &[u8], image: &'a [u8]) -> &'a [u8] {
+    let next = rest(image, number(row, rows::TAKEN, 1, 0) as usize);
+    part(next, 0, number(row, rows::PIECE, 1, 4) as usize)
 }
 
 // What a call answered, and the record and the slot that it left.
-fn print_turn(label: &[u8], turn: Turn, kept: bool, slot: &[u8]) {
+fn print_turn(turn: Turn, kept: bool, slot: &[u8]) {
     let session = turn.session;
     let reply = turn.reply;
-    show::print(label);
     print_reply(reply);
     if kept {
-        show::print(b", as before");
+        show::word(rows::KEPT);
         return;
     }
     print_session(session);
-    let left = blake2s::blake2s(slot);
-    show::print_bytes(b", slot ", &left);
+    show::digest(rows::BYTE, slot);
 }
 
-// One call on the record of a row.
-fn turn(label: &[u8], which: usize, row: &[u8], image: &[u8], slot: &mut [u8]) {
-    let s = session(row, image);
-    prepare(row, s.taken, image, slot);
-    let piece = octets::part(
-        octets::rest(image, s.taken),
-        0,
-        number(row, rows::PIECE, 0, 4) as usize,
-    );
-    let t = tried(which, row, s, piece, slot);
+fn change(which: usize, row: &[u8], image: &[u8], slot: &mut [u8]) {
+    let t = tried(which, row, session(row, image), piece(row, image), slot);
     let turn = t.turn;
-    print_turn(label, turn, t.kept, slot);
+    print_turn(turn, t.kept, slot);
 }
 
-fn ask(row: &[u8], image: &[u8], slot: &mut [u8]) {
-    let s = session(row, image);
-    prepare(row, s.taken, image, slot);
-    let asked = installer::ask(s, slot);
-    print_digest(b"\n  ask: vendor ", asked.vendor);
-    print_digest(b", firmware ", asked.firmware);
+fn ask(row: &[u8], image: &[u8], slot: &[u8]) {
+    let asked = installer::ask(session(row, image), slot);
+    print_digest(rows::VENDOR, asked.vendor);
+    print_digest(rows::FIRMWARE, asked.firmware);
+}
+
+// One call on the record of a row, on a line of its own.
+fn turn(which: usize, row: &[u8], image: &[u8], slot: &mut [u8]) {
+    show::text(b"\n ");
+    show::word(which);
+    prepare(row, image, slot);
+    if which == rows::ASK {
+        ask(row, image, slot);
+        return;
+    }
+    change(which, row, image, slot);
 }
 
 fn turns(row: &[u8], image: &[u8], slot: &mut [u8]) {
-    turn(b"\n  erase: ", 0, row, image, slot);
-    turn(b"\n  fill: ", 1, row, image, slot);
-    ask(row, image, slot);
-    turn(b"\n  close: ", 2, row, image, slot);
+    let mut which = rows::ERASE;
+    while which <= rows::ASK {
+        turn(which, row, image, slot);
+        which += 1;
+    }
 }
 
 // A row of a record: every call on it, with so many bytes of slot as the row says.
-pub fn record(row: &[u8], source: &mut [u8], b: &mut [u8]) {
-    lend(b"", 8192, source);
+pub fn record(row: &[u8], image: &[u8], b: &mut [u8]) {
     let from: usize = 0;
-    let lent = number(row, rows::LENT, 0, 8192) as usize;
+    let lent = number(row, rows::LENT, 1, 8192) as usize;
     if lent <= b.len() {
-        turns(row, octets::part(source, 0, 8192), &mut b[from..lent]);
+        turns(row, part(image, 0, 8192), &mut b[from..lent]);
     }
 }
 
 // A row of begin: the length of the slot that is lent, and the file's.
 pub fn begin(row: &[u8], b: &[u8]) {
-    let slot = octets::part(b, 0, number(row, rows::LENT, 0, 8192) as usize);
-    let turn = installer::begin(slot, number(row, rows::FILE, 0, 1540) as usize);
+    let slot = part(b, 0, number(row, rows::LENT, 1, 8192) as usize);
+    let turn = installer::begin(slot, number(row, rows::FILE, 1, 1540) as usize);
     let session = turn.session;
     let reply = turn.reply;
     print_reply(reply);

@@ -1,9 +1,20 @@
 // Rows of text. A row is a line of words and numbers with one space between them. Its first word says
 // what is done; each further word is followed by its numbers, and stands in for a usual number where
 // it is left out. A word that starts with a capital letter is a label, and says which step of the
-// specification the row is about.
+// specification the row is about. Answers are written in the same words.
+use octets::byte_at;
+use octets::minus;
+use octets::part;
+use std::num::wrapping_add_usize;
 
-// A word is told by its place in the list of `place`.
+// All words. A word is told by its place here.
+pub const WORDS: [u8; 397] =
+    *b"file slot parts digests trust roundtrip vendor firmware begin record install \
+crossed v m keys string code hashed word byte and nothing lent time policy verdicts keybytes picture \
+room live pages taken operations piece dirty by erase fill close ask accepted version fix refused part \
+chunk header output same other seconds red click secret begun erased took Done first held kept calls \
+between unknown";
+
 pub const FILE: usize = 0;
 
 pub const SLOT: usize = 1;
@@ -23,8 +34,6 @@ pub const FIRMWARE: usize = 7;
 pub const BEGIN: usize = 8;
 
 pub const RECORD: usize = 9;
-
-pub const INSTALL: usize = 10;
 
 pub const CROSSED: usize = 11;
 
@@ -76,13 +85,65 @@ pub const DIRTY: usize = 34;
 
 pub const BY: usize = 35;
 
-pub const COMMENT: usize = 98;
+pub const ERASE: usize = 36;
 
-const UNKNOWN: usize = 99;
+pub const FILL: usize = 37;
+
+pub const CLOSE: usize = 38;
+
+pub const ASK: usize = 39;
+
+pub const ACCEPTED: usize = 40;
+
+pub const VERSION: usize = 41;
+
+pub const FIX: usize = 42;
+
+pub const REFUSED: usize = 43;
+
+pub const PART: usize = 44;
+
+pub const CHUNK: usize = 45;
+
+pub const HEADER: usize = 46;
+
+pub const OUTPUT: usize = 47;
+
+pub const SAME: usize = 48;
+
+pub const OTHER: usize = 49;
+
+pub const SECONDS: usize = 50;
+
+pub const RED: usize = 51;
+
+pub const CLICK: usize = 52;
+
+pub const SECRET: usize = 53;
+
+pub const BEGUN: usize = 54;
+
+pub const ERASED: usize = 55;
+
+pub const TOOK: usize = 56;
+
+pub const DONE: usize = 57;
+
+pub const FIRST: usize = 58;
+
+pub const HELD: usize = 59;
+
+pub const KEPT: usize = 60;
+
+pub const CALLS: usize = 61;
+
+pub const BETWEEN: usize = 62;
+
+pub const UNKNOWN: usize = 63;
 
 // Whether an item of a list starts at a place, where items have x between them.
 pub fn starts(list: &[u8], at: usize, x: u8) -> bool {
-    (at == 0) | (octets::byte_at(list, octets::minus(at, 1)) == x)
+    (at == 0) | (byte_at(list, minus(at, 1)) == x)
 }
 
 // The item that starts at a place.
@@ -90,23 +151,35 @@ pub fn item(list: &[u8], at: usize, x: u8) -> &[u8] {
     let mut i = at;
     while i < list.len() {
         if list[i] == x {
-            return octets::part(list, at, i);
+            return part(list, at, i);
         }
         i += 1;
     }
-    octets::part(list, at, i)
+    part(list, at, i)
+}
+
+// The word at k of a list.
+pub fn nth(words: &[u8], k: usize) -> &[u8] {
+    let mut before: usize = 0;
+    let mut i: usize = 0;
+    while i < words.len() {
+        if starts(words, i, b' ') {
+            if before == k {
+                return item(words, i, b' ');
+            }
+            before = wrapping_add_usize(before, 1);
+        }
+        i += 1;
+    }
+    part(words, 0, 0)
 }
 
 fn same(a: &[u8], b: &[u8]) -> bool {
     (a.len() == b.len()) & octets::starts_with(a, b)
 }
 
-// The place of a word in the list of words.
-fn place(word: &[u8]) -> usize {
-    let words: &[u8] =
-        b"file slot parts digests trust roundtrip vendor firmware begin record install \
-crossed v m keys string code hashed word byte and nothing lent time policy verdicts keybytes picture \
-room live pages taken operations piece dirty by";
+// The place of a word in a list.
+fn find(words: &[u8], word: &[u8]) -> usize {
     let mut k: usize = 0;
     let mut i: usize = 0;
     while i < words.len() {
@@ -114,23 +187,19 @@ room live pages taken operations piece dirty by";
             if same(item(words, i, b' '), word) {
                 return k;
             }
-            k = std::num::wrapping_add_usize(k, 1);
+            k = wrapping_add_usize(k, 1);
         }
         i += 1;
     }
     UNKNOWN
 }
 
-fn is_digit(c: u8) -> bool {
-    (b'0' <= c) & (c <= b'9')
+fn place(word: &[u8]) -> usize {
+    find(&WORDS, word)
 }
 
-// What a row does: the place of its first word. A row with a word that is not in the list is unknown; a
-// blank line or one that starts with `#` is a comment.
+// What a row does: the place of its first word. A row with a word that is not in the list is unknown.
 pub fn kind(row: &[u8]) -> usize {
-    if (row.len() == 0) | (octets::byte_at(row, 0) == b'#') {
-        return COMMENT;
-    }
     let mut i: usize = 0;
     while i < row.len() {
         if starts(row, i, b' ') & (b'a' <= row[i]) {
@@ -145,10 +214,11 @@ pub fn kind(row: &[u8]) -> usize {
 
 // The number with one more digit, modulo 2^32.
 fn with_digit(number: u32, digit: u8) -> u32 {
-    let sum = 10 * (number as usize) + octets::minus(digit as usize, 48);
+    let sum = 10 * (number as usize) + minus(digit as usize, 48);
     (sum % 4294967296) as u32
 }
 
+// The number that a text of digits tells.
 fn decimal(digits: &[u8]) -> u32 {
     let mut number: u32 = 0;
     let mut i: usize = 0;
@@ -159,21 +229,13 @@ fn decimal(digits: &[u8]) -> u32 {
     number
 }
 
-// The number at k, from 0, behind a word of a row, or another where the row has none.
+// The number at k, from 1, behind a word of a row, or another where the row does not have the word.
 pub fn number(row: &[u8], word: usize, k: usize, otherwise: u32) -> u32 {
-    let mut found = false;
-    let mut before = k;
     let mut i: usize = 0;
     while i < row.len() {
         if starts(row, i, b' ') {
-            if is_digit(row[i]) {
-                if found & (before == 0) {
-                    return decimal(item(row, i, b' '));
-                }
-                before = octets::minus(before, 1);
-            } else if b'a' <= row[i] {
-                found = place(item(row, i, b' ')) == word;
-                before = k;
+            if place(item(row, i, b' ')) == word {
+                return decimal(nth(octets::rest(row, i), k));
             }
         }
         i += 1;

@@ -1,81 +1,77 @@
-// What the program writes.
-use crate::rows::item;
-use crate::rows::starts;
+// What the program writes: words and numbers, each with a space before it.
+use crate::rows;
+use crate::rows::nth;
 use header::Refusal;
 use image::Answer;
 use image::Image;
 use image::Version;
 use libc::STDOUT_FILENO;
 
-pub fn print(text: &[u8]) {
+pub fn text(text: &[u8]) {
     io::write_all(STDOUT_FILENO, text);
 }
 
-fn print_byte(x: u8) {
+pub fn word(word: usize) {
+    text(b" ");
+    text(nth(&rows::WORDS, word));
+}
+
+pub fn number(label: usize, number: usize) {
+    word(label);
+    text(b" ");
+    io::print_decimal(STDOUT_FILENO, number as u64);
+}
+
+fn byte(x: u8) {
     io::print_hex(STDOUT_FILENO, x as u64, 2);
 }
 
 // Bytes in their order, two digits each.
-pub fn print_bytes(label: &[u8], bytes: &[u8]) {
-    print(label);
+pub fn bytes(label: usize, bytes: &[u8]) {
+    word(label);
+    text(b" ");
     let mut i: usize = 0;
     while i < bytes.len() {
-        print_byte(bytes[i]);
+        byte(bytes[i]);
         i += 1;
     }
 }
 
-pub fn print_number(label: &[u8], number: usize) {
-    print(label);
-    io::print_decimal(STDOUT_FILENO, number as u64);
+// The digest of bytes.
+pub fn digest(label: usize, lent: &[u8]) {
+    let digest = blake2s::blake2s(lent);
+    bytes(label, &digest);
 }
 
-fn nth(numbers: &[usize], k: usize) -> usize {
-    if k < numbers.len() { numbers[k] } else { 0 }
+pub fn refusal(r: Refusal) {
+    number(rows::REFUSED, r.number as usize);
+    number(rows::PART, r.part as usize);
+    number(rows::CHUNK, r.chunk as usize);
 }
 
-// Each label and its number; the labels have `#` between them.
-pub fn print_numbers(labels: &[u8], numbers: &[usize]) {
-    let mut k: usize = 0;
-    let mut i: usize = 0;
-    while i < labels.len() {
-        if starts(labels, i, b'#') {
-            print_number(item(labels, i, b'#'), nth(numbers, k));
-            k = std::num::wrapping_add_usize(k, 1);
-        }
-        i += 1;
-    }
+fn dotted(x: u8) {
+    text(b".");
+    io::print_decimal(STDOUT_FILENO, x as u64);
 }
 
-pub fn print_refusal(r: Refusal) {
-    let numbers = [r.number as usize, r.part as usize, r.chunk as usize];
-    print_numbers(b"refused # part # chunk ", &numbers);
+fn version(label: usize, v: Version) {
+    number(label, v.major as usize);
+    dotted(v.minor);
+    dotted(v.patch);
+    dotted(v.build);
 }
 
-fn print_image(i: Image) {
-    let v = i.version;
-    let f = i.fix;
-    print_numbers(
-        b"accepted v # codelen ",
-        &[i.v as usize, i.codelen as usize],
-    );
-    print_version(b" version #.#.#.", v);
-    print_version(b" fix #.#.#.", f);
+fn accepted(i: Image) {
+    word(rows::ACCEPTED);
+    number(rows::V, i.v as usize);
+    number(rows::CODE, i.codelen as usize);
+    version(rows::VERSION, i.version);
+    version(rows::FIX, i.fix);
 }
 
-fn print_version(labels: &[u8], v: Version) {
-    let numbers = [
-        v.major as usize,
-        v.minor as usize,
-        v.patch as usize,
-        v.build as usize,
-    ];
-    print_numbers(labels, &numbers);
-}
-
-pub fn print_answer(answer: Answer) {
+pub fn answer(answer: Answer) {
     match answer {
-        Answer::Accepted(i) => print_image(i),
-        Answer::Rejected(r) => print_refusal(r),
+        Answer::Accepted(i) => accepted(i),
+        Answer::Rejected(r) => refusal(r),
     }
 }

@@ -7,10 +7,10 @@ use Rattle.cases.proofs.installs.all_refused.Statement.{statement}
 use Rattle.cases.proofs.installs.all_refused.Tie as tie
 
 abbrev Inv-loop : tie.InvT-loop
-Inv-loop row crossed s slot₀ total₀ which₀ slot total which = (which ≤ 7) × (length slot ≡ length slot₀)
+Inv-loop kind row s slot₀ total₀ which₀ slot total which = (which ≤ 39) × (length slot ≡ length slot₀)
 
 abbrev μ-loop : tie.MeasureT-loop
-μ-loop row crossed s slot₀ total₀ which₀ slot total which = 7 - which
+μ-loop kind row s slot₀ total₀ which₀ slot total which = 39 - which
 
 pub all-refused-spec : {M : Type 1} → statement M
 all-refused-spec =
@@ -18,6 +18,11 @@ all-refused-spec =
     (tie.spec
     Inv-loop
     μ-loop
+    (λ c. search needs)
+    (λ c. search needs)
+    (λ c. search needs)
+    (λ c κs. search needs)
+    (λ c κs. search needs)
     (λ c. search needs)
     (λ c κs. search needs)
     (λ c. search needs)

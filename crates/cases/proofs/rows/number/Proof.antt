@@ -6,10 +6,10 @@ use Rattle.cases.proofs.rows.number.Statement.{statement}
 use Rattle.cases.proofs.rows.number.Tie as tie
 
 abbrev Inv-loop : tie.InvT-loop
-Inv-loop row word k otherwise found₀ before₀ i₀ found before i = i ≤ length row
+Inv-loop row word k otherwise i₀ i = i ≤ length row
 
 abbrev μ-loop : tie.MeasureT-loop
-μ-loop row word k otherwise found₀ before₀ i₀ found before i = length row - i
+μ-loop row word k otherwise i₀ i = length row - i
 
 pub number-spec : {M : Type 1} → statement M
 number-spec =
@@ -19,15 +19,12 @@ number-spec =
     μ-loop
     (λ c. search needs)
     (λ c κs. search needs)
+    (λ c κs. search needs)
+    (λ c κs. search needs)
+    (λ c κs. search needs)
+    (λ c κs. search needs)
+    (λ c κs. search needs)
     (λ c. search needs)
-    (λ c κs. search needs)
-    (λ c κs. search needs)
-    (λ c κs. search needs)
-    (λ c. search needs)
-    (λ c κs. search needs)
-    (λ c. search needs)
-    (λ c κs. search needs)
-    (λ c κs. search needs)
     (λ c. search needs)
     (λ c. search needs)
     (λ c. search needs)

@@ -1,23 +1,22 @@
--- `cases::rows::place` is safe and ends: each turn passes a byte of the list.
+-- `cases::rows::find` is safe and ends: each turn passes a byte of the list.
 use Prim.Native.Nat.{_≤_, _-_}
 use lib.ListN.{length}
 use borrow.Author.Needs.{needs}
-use Rattle.cases.proofs.rows.place.Statement.{statement}
-use Rattle.cases.proofs.rows.place.Tie as tie
+use Rattle.cases.proofs.rows.find.Statement.{statement}
+use Rattle.cases.proofs.rows.find.Tie as tie
 
 abbrev Inv-loop : tie.InvT-loop
-Inv-loop word words k₀ i₀ k i = i ≤ length words
+Inv-loop words word k₀ i₀ k i = i ≤ length words
 
 abbrev μ-loop : tie.MeasureT-loop
-μ-loop word words k₀ i₀ k i = length words - i
+μ-loop words word k₀ i₀ k i = length words - i
 
-pub place-spec : {M : Type 1} → statement M
-place-spec =
+pub find-spec : {M : Type 1} → statement M
+find-spec =
     tie.close
     (tie.spec
     Inv-loop
     μ-loop
-    (λ c. search needs)
     (λ c. search needs)
     (λ c κs. search needs)
     (λ c κs. search needs)

@@ -1,9 +1,9 @@
--- `cases::show::print_bytes` is safe and ends: each turn passes one of the bytes.
+-- `cases::show::bytes` is safe and ends: each turn passes one of the bytes.
 use Prim.Native.Nat.{_≤_, _-_}
 use lib.ListN.{length}
 use borrow.Author.Needs.{needs}
-use Rattle.cases.proofs.show.print_bytes.Statement.{statement}
-use Rattle.cases.proofs.show.print_bytes.Tie as tie
+use Rattle.cases.proofs.show.bytes.Statement.{statement}
+use Rattle.cases.proofs.show.bytes.Tie as tie
 
 abbrev Inv-loop : tie.InvT-loop
 Inv-loop label bytes i₀ i = i ≤ length bytes
@@ -11,12 +11,14 @@ Inv-loop label bytes i₀ i = i ≤ length bytes
 abbrev μ-loop : tie.MeasureT-loop
 μ-loop label bytes i₀ i = length bytes - i
 
-pub print-bytes-spec : {M : Type 1} → statement M
-print-bytes-spec =
+pub bytes-spec : {M : Type 1} → statement M
+bytes-spec =
     tie.close
     (tie.spec
     Inv-loop
     μ-loop
+    (λ c κs. search needs)
+    (λ c. search needs)
     (λ c κs. search needs)
     (λ c. search needs)
     (λ c. search needs)
