@@ -1,83 +1,77 @@
-// What the program writes.
+// What the program writes: words and numbers, each with a space before it.
+use crate::rows;
+use crate::rows::nth;
 use header::Refusal;
 use image::Answer;
 use image::Image;
 use image::Version;
 use libc::STDOUT_FILENO;
 
-pub fn wide(x: u8) -> u32 {
-    x as u32
-}
-
-pub fn print(text: &[u8]) {
+pub fn text(text: &[u8]) {
     io::write_all(STDOUT_FILENO, text);
 }
 
-pub fn print_number(label: &[u8], number: u32) {
-    print(label);
+pub fn word(word: usize) {
+    text(b" ");
+    text(nth(&rows::WORDS, word));
+}
+
+pub fn number(label: usize, number: usize) {
+    word(label);
+    text(b" ");
     io::print_decimal(STDOUT_FILENO, number as u64);
 }
 
-pub fn print_size(label: &[u8], size: usize) {
-    print(label);
-    io::print_decimal(STDOUT_FILENO, size as u64);
+fn byte(x: u8) {
+    io::print_hex(STDOUT_FILENO, x as u64, 2);
 }
 
-pub fn print_hex(number: u32, width: usize) {
-    io::print_hex(STDOUT_FILENO, number as u64, width);
-}
-
-pub fn print_bytes(digest: [u8; 32]) {
+// Bytes in their order, two digits each.
+pub fn bytes(label: usize, bytes: &[u8]) {
+    word(label);
+    text(b" ");
     let mut i: usize = 0;
-    while i < 32 {
-        print_hex(wide(digest[i]), 2);
+    while i < bytes.len() {
+        byte(bytes[i]);
         i += 1;
     }
 }
 
-pub fn print_digest(digest: [u8; 32]) {
-    print_bytes(digest);
-    print(b"\n");
+// The digest of bytes.
+pub fn digest(label: usize, lent: &[u8]) {
+    let digest = blake2s::blake2s(lent);
+    bytes(label, &digest);
 }
 
-// Four bytes in their order.
-pub fn print_word(label: &[u8], w: [u8; 4]) {
-    print(label);
-    print_hex(wide(w[0]), 2);
-    print_hex(wide(w[1]), 2);
-    print_hex(wide(w[2]), 2);
-    print_hex(wide(w[3]), 2);
+pub fn refusal(r: Refusal) {
+    number(rows::REFUSED, r.number as usize);
+    number(rows::PART, r.part as usize);
+    number(rows::CHUNK, r.chunk as usize);
 }
 
-pub fn print_rejected(r: Refusal) {
-    print_number(b"refused ", r.number);
-    print_number(b" part ", r.part);
-    print_number(b" chunk ", r.chunk);
+fn dotted(x: u8) {
+    text(b".");
+    io::print_decimal(STDOUT_FILENO, x as u64);
 }
 
-pub fn print_refusal(r: Refusal) {
-    print_rejected(r);
-    print(b"\n");
+fn version(label: usize, v: Version) {
+    number(label, v.major as usize);
+    dotted(v.minor);
+    dotted(v.patch);
+    dotted(v.build);
 }
 
-fn print_version(label: &[u8], version: Version) {
-    print_number(label, wide(version.major));
-    print_number(b".", wide(version.minor));
-    print_number(b".", wide(version.patch));
-    print_number(b".", wide(version.build));
+fn accepted(i: Image) {
+    word(rows::ACCEPTED);
+    number(rows::V, i.v as usize);
+    number(rows::CODE, i.codelen as usize);
+    version(rows::VERSION, i.version);
+    version(rows::FIX, i.fix);
 }
 
-fn print_image(i: Image) {
-    print_number(b"accepted v ", i.v);
-    print_number(b" codelen ", i.codelen);
-    print_version(b" version ", i.version);
-    print_version(b" fix ", i.fix);
-    print(b"\n");
-}
-
-pub fn print_answer(answer: Answer) {
+pub fn answer(answer: Answer) {
     match answer {
-        Answer::Accepted(i) => print_image(i),
-        Answer::Rejected(r) => print_refusal(r),
+        Answer::Accepted(i) => accepted(i),
+        Answer::Rejected(r) => refusal(r),
     }
 }

@@ -1,5 +1,5 @@
 -- `cases::build::fill` is safe and ends: each turn passes a byte before the end.
-use Prim.Native.Nat.{_≤_, _-_}
+use Prim.Native.Nat.{_-_}
 use mathlib.Core.Path.{_≡_}
 use lib.ListN.{length}
 use borrow.Author.Needs.{needs}
@@ -7,7 +7,7 @@ use Rattle.cases.proofs.build.fill.Statement.{statement}
 use Rattle.cases.proofs.build.fill.Tie as tie
 
 abbrev Inv-loop : tie.InvT-loop
-Inv-loop b₀ from to x i₀ b i = (length b ≡ length b₀)
+Inv-loop b₀ from to x i₀ b i = length b ≡ length b₀
 
 abbrev μ-loop : tie.MeasureT-loop
 μ-loop b₀ from to x i₀ b i = to - i

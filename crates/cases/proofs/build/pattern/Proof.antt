@@ -1,5 +1,5 @@
--- `cases::build::pattern` is safe and ends: each turn passes a byte before the end, at or after the start.
-use Prim.Native.Nat.{_≤_, _-_}
+-- `cases::build::pattern` is safe and ends: each turn passes a byte before the end.
+use Prim.Native.Nat.{_-_}
 use mathlib.Core.Path.{_≡_}
 use lib.ListN.{length}
 use borrow.Author.Needs.{needs}
@@ -7,10 +7,10 @@ use Rattle.cases.proofs.build.pattern.Statement.{statement}
 use Rattle.cases.proofs.build.pattern.Tie as tie
 
 abbrev Inv-loop : tie.InvT-loop
-Inv-loop b₀ from to i₀ b i = (from ≤ i) × (length b ≡ length b₀)
+Inv-loop b₀ to i₀ b i = length b ≡ length b₀
 
 abbrev μ-loop : tie.MeasureT-loop
-μ-loop b₀ from to i₀ b i = to - i
+μ-loop b₀ to i₀ b i = to - i
 
 pub pattern-spec : {M : Type 1} → statement M
 pattern-spec =
@@ -18,7 +18,6 @@ pattern-spec =
     (tie.spec
     Inv-loop
     μ-loop
-    (λ c. search needs)
     (λ c. search needs)
     (λ c. search needs)
     (λ c. search needs)
