@@ -235,7 +235,7 @@ def firmware_header(numbers, v, code, room):
 
 
 class Record(NamedTuple):
-    live: bool = False
+    phase: int = 0
     slot: int = 0
     file: int = 0
     pages: int = 0
@@ -253,16 +253,16 @@ def takes_file(slot, length):
     return length % 4 == 0 and 1_540 <= length <= slot
 
 
-def can_be(record, slot):
-    """Whether a record is open, of this slot, and one that some session reaches."""
-    live, length, file, pages, taken, operations, _, _ = record
-    return (live and length == len(slot) and takes_slot(length) and takes_file(length, file)
+def is_consistent(record, slot):
+    """Whether a record is open, and consistent with this slot."""
+    phase, length, file, pages, taken, operations, _, _ = record
+    return (phase == 1 and length == len(slot) and takes_slot(length) and takes_file(length, file)
             and pages <= length // PAGE and (taken == 0 or pages == length // PAGE)
             and taken <= file and operations == pages + max(0, taken // 4 - 1))
 
 
 def is_full(record, slot):
-    return (can_be(record, slot) and record.pages == record.slot // PAGE
+    return (is_consistent(record, slot) and record.pages == record.slot // PAGE
             and record.taken == record.file)
 
 
@@ -275,20 +275,20 @@ def begin(slot, file):
         return Record(), 22
     if not takes_file(slot, file):
         return Record(), 18
-    return Record(live=True, slot=slot, file=file), "begun"
+    return Record(phase=1, slot=slot, file=file), "begun"
 
 
 def erase(record, slot):
-    if not can_be(record, slot) or record.pages == record.slot // PAGE:
+    if not is_consistent(record, slot) or record.pages == record.slot // PAGE:
         return record, 19
     slot[PAGE * record.pages:PAGE * (record.pages + 1)] = ERASED * PAGE
     return record._replace(pages=record.pages + 1, operations=record.operations + 1), "erased"
 
 
 def fill(record, piece, slot):
-    if not can_be(record, slot) or record.pages < record.slot // PAGE:
+    if not is_consistent(record, slot) or record.pages < record.slot // PAGE:
         return record, 19
-    live, length, file, pages, taken, operations, first, held = record
+    phase, length, file, pages, taken, operations, first, held = record
     got = taken % 4
     count = min(4 - got, len(piece), file - taken)
     word = held[:got] + piece[:count] + held[got + count:]
@@ -300,7 +300,7 @@ def fill(record, piece, slot):
             return record, 23
         slot[at:at + 4] = word
         operations += 1
-    after = Record(live, length, file, pages, taken + count, operations, first, word)
+    after = Record(phase, length, file, pages, taken + count, operations, first, word)
     return after, f"took {count}"
 
 
@@ -317,6 +317,6 @@ def close(record, given, slot):
         return record, 23
     answer = check(given_file(record, slot), given, slot=False)
     if isinstance(answer, Refusal):
-        return record._replace(live=False), answer
+        return record._replace(phase=0), answer
     slot[:4] = record.first
-    return record._replace(live=False, operations=record.operations + 1), "Done"
+    return record._replace(phase=0, operations=record.operations + 1), "Done"

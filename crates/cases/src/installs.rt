@@ -45,7 +45,7 @@ fn refused(which: usize, row: &[u8], s: Session, slot: &mut [u8]) -> bool {
 
 // The same for a call out of turn.
 fn out_of_turn(which: usize, row: &[u8], s: Session, slot: &mut [u8]) -> bool {
-    if s.live & (which == due(s)) {
+    if (s.phase == 1) & (which == due(s)) {
         return false;
     }
     refused(which, row, s, slot)
@@ -111,7 +111,7 @@ fn run(kind: usize, row: &[u8], file: &[u8], slot: &mut [u8]) {
     while calls < limit {
         let session = turn.session;
         between = wrapping_add_usize(between, all_refused(kind, row, session, slot));
-        if !session.live {
+        if session.phase != 1 {
             print_end(turn, calls, between);
             return;
         }

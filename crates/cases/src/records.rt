@@ -1,5 +1,5 @@
-// Rows of single calls of the installer: begin, and every other call on a record, also on one whose
-// numbers cannot be. The slot holds what the record says: the words stored so far, and erased bytes.
+// Rows of single calls of the installer: begin, and every other call on a record, also on one that is
+// inconsistent. The slot holds what the record says: the words stored so far, and erased bytes.
 use crate::build::copy;
 use crate::build::fill;
 use crate::build::set;
@@ -21,6 +21,7 @@ pub fn print_reply(reply: Reply) {
         Reply::Begun => show::word(rows::BEGUN),
         Reply::Erased => show::word(rows::ERASED),
         Reply::Took(count) => show::number(rows::TOOK, count),
+        Reply::Accepted => show::word(rows::ACCEPTED),
         Reply::Done => show::word(rows::DONE),
         Reply::Refused(number) => show::number(rows::REFUSED, number as usize),
         Reply::Rejected(r) => show::refusal(r),
@@ -35,7 +36,7 @@ fn print_words(first: [u8; 4], held: [u8; 4]) {
 fn print_session(s: Session) {
     let first = s.first;
     let held = s.held;
-    show::number(rows::LIVE, s.live as usize);
+    show::number(rows::PHASE, s.phase as usize);
     show::number(rows::SLOT, s.slot);
     show::number(rows::FILE, s.file);
     show::number(rows::PAGES, s.pages);
@@ -58,7 +59,7 @@ fn same_words(a: Session, b: Session) -> bool {
 
 fn same_session(a: Session, b: Session) -> bool {
     let words = same_words(a, b);
-    (a.live == b.live)
+    (a.phase == b.phase)
         & (a.slot == b.slot)
         & (a.file == b.file)
         & (a.pages == b.pages)
@@ -111,7 +112,7 @@ fn session(row: &[u8], image: &[u8]) -> Session {
     let first = word_at(image, 0);
     let held = word_at(image, taken / 4 * 4);
     Session {
-        live: number(row, rows::LIVE, 1, 1) == 1,
+        phase: number(row, rows::PHASE, 1, 1),
         slot: number(row, rows::SLOT, 1, 8192) as usize,
         file: number(row, rows::FILE, 1, 1540) as usize,
         pages: number(row, rows::PAGES, 1, 2) as usize,

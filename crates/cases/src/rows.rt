@@ -8,10 +8,10 @@ use octets::part;
 use std::num::wrapping_add_usize;
 
 // All words. A word is told by its place here.
-pub const WORDS: [u8; 397] =
+pub const WORDS: [u8; 398] =
     *b"file slot parts digests trust roundtrip vendor firmware begin record install \
 crossed v m keys string code hashed word byte and nothing lent time policy verdicts keybytes picture \
-room live pages taken operations piece dirty by erase fill close ask accepted version fix refused part \
+room phase pages taken operations piece dirty by erase fill close ask accepted version fix refused part \
 chunk header output same other seconds red click secret begun erased took Done first held kept calls \
 between unknown";
 
@@ -71,7 +71,7 @@ pub const PICTURE: usize = 27;
 
 pub const ROOM: usize = 28;
 
-pub const LIVE: usize = 29;
+pub const PHASE: usize = 29;
 
 pub const PAGES: usize = 30;
 
