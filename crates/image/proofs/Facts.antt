@@ -20,7 +20,7 @@ use Rattle.header.proofs.Rows.{passes-here, ends, stage-first, stage-then, stag
 use Rattle.header.proofs.Facts.{VendorShaped, FirmwareShaped, headers-pass, vendor-shaped, firmware-shaped, extent-passes}
 use Rattle.image.specs.Chunks.{hashesOf, hashTable, codeOf, hashRows}
 use Rattle.image.specs.Answer.{versionAt, imageOf, answerOf}
-use Rattle.image.specs.Check.{checkRows, checkFile, checkSlot}
+use Rattle.image.specs.Check.{checkRows, checkFile}
 use Rattle.image.specs.declared.Version.{Version}
 use Rattle.image.specs.declared.Image.{Image}
 use Rattle.image.specs.declared.Answer.{Answer}
@@ -113,15 +113,6 @@ file-told b given i h = told (firstFailing (checkRows (vendorMagicMissing b) (by
 pub file-accepted : (b : List ℕ) (given : Inputs) → RowsPass (vendorMagicMissing b) (bytesFollow b) b given → checkFile b given ≡ Accepted (imageOf b)
 unfolding checkFile
 file-accepted b given p = rows-accepted p
-
--- the check of a slot
-pub slot-rows-pass : (b : List ℕ) (given : Inputs) (i : Image) → checkSlot b given ≡ Accepted i → RowsPass (vendorMagicMissing b) (tailNotErased b) b given
-unfolding checkSlot
-slot-rows-pass b given i h = accepted-rows (vendorMagicMissing b) (tailNotErased b) b given i h
-
-pub slot-told : (b : List ℕ) (given : Inputs) (i : Image) → checkSlot b given ≡ Accepted i → imageOf b ≡ i
-unfolding checkSlot
-slot-told b given i h = told (firstFailing (checkRows (vendorMagicMissing b) (tailNotErased b) b given)) (imageOf b) i h
 
 -- ---- the extent
 

@@ -1,4 +1,4 @@
--- The parts that a check hands back of an accepted image stand where the fields say, and the headers hold them whole.
+-- What an accepted slot says, as Facts.antt has it of a file; and the parts that a check hands back of an accepted image: they stand where the fields say, and are held whole.
 -- Assumes nothing.
 use Prim.Native.Nat.{ℕ, _+_, _-_, _*_}
 use mathlib.Core.Path.{_≡_, refl, subst}
@@ -7,11 +7,27 @@ use native.Mathlib.Omega.{arith}
 use lib.ListN.{take, drop}
 use Rattle.octets.specs.Read.{between}
 use Rattle.header.specs.Layout.{vendorLen, codeLen, keyCount, stringLen, stringStart, stringEnd, pictureStart, maskAt, codeStart, imageLen}
+use Rattle.header.specs.Steps.{vendorMagicMissing, tailNotErased}
+use Rattle.header.specs.Table.{firstFailing}
+use Rattle.header.specs.declared.Inputs.{Inputs}
 use Rattle.image.specs.Answer.{imageOf}
+use Rattle.image.specs.Check.{checkRows, checkSlot}
 use Rattle.image.specs.Theorems.{PartsStand, AcceptedParts}
 use Rattle.image.specs.declared.Image.{Image}
 use Rattle.image.specs.declared.Answer.the-variants.{Accepted}
-use Rattle.image.proofs.Facts.{Sound, sound, file-rows-pass, file-told, slot-rows-pass, slot-told, length-part, code-length}
+use Rattle.image.proofs.Facts.{told, RowsPass, Sound, sound, accepted-rows, file-rows-pass, file-told, length-part, code-length}
+
+-- ---- an accepted slot
+
+pub slot-rows-pass : (b : List ℕ) (given : Inputs) (i : Image) → checkSlot b given ≡ Accepted i → RowsPass (vendorMagicMissing b) (tailNotErased b) b given
+unfolding checkSlot
+slot-rows-pass b given i h = accepted-rows (vendorMagicMissing b) (tailNotErased b) b given i h
+
+pub slot-told : (b : List ℕ) (given : Inputs) (i : Image) → checkSlot b given ≡ Accepted i → imageOf b ≡ i
+unfolding checkSlot
+slot-told b given i h = told (firstFailing (checkRows (vendorMagicMissing b) (tailNotErased b) b given)) (imageOf b) i h
+
+-- ---- the parts
 
 -- n bytes from a on
 part-taken : (b : List ℕ) (a n s e : ℕ) → s ≡ a → e ≡ a + n → between s e b ≡ take n (drop a b)

@@ -23,8 +23,8 @@ use Rattle.image.specs.Check.{checkFile}
 use Rattle.image.specs.Parts.{stringOf, pictureOf}
 use Rattle.image.specs.declared.Image.{Image}
 use Rattle.image.specs.declared.Answer.the-variants.{Accepted}
-use Rattle.image.proofs.Facts.{RowsPass, Sound, sound, file-rows-pass, file-told, slot-rows-pass, slot-told, file-length, length-part, code-length}
-use Rattle.image.proofs.Parts.{parts-stand}
+use Rattle.image.proofs.Facts.{RowsPass, Sound, sound, file-rows-pass, file-told, file-length, length-part, code-length}
+use Rattle.image.proofs.Parts.{slot-rows-pass, slot-told, parts-stand}
 use Rattle.writer.specs.Vendor.{vendorSize, vendorHead, vendorFront, vendorBack, vendorFields, vendorHeader, vendorRefusals}
 use Rattle.writer.specs.Firmware.{quad, joined, firmwareHead, firmwareFields, firmwareHeader, firmwareRefusals}
 use Rattle.writer.specs.Parts.{Parts, Sized, partsOf}
