@@ -5,12 +5,12 @@ use mathlib.Core.List.{List, [], _∷_, _++_}
 use lib.ListN.{getD, replicate}
 use Rattle.octets.specs.Read.{u32At}
 use Rattle.octets.specs.Put.{le32}
+use Rattle.header.specs.Outcome.{numberOf, whereOf}
 use Rattle.installer.specs.declared.Session.{Session}
 use Rattle.installer.specs.declared.Asked.{Asked}
 use Rattle.installer.specs.declared.Turn.{Turn}
 use Rattle.installer.specs.declared.Reply.{Reply}
 use Rattle.installer.specs.declared.Reply.the-variants.{Begun, Erased, Took, Accepted, Done, Refused, Rejected}
-use Rattle.abi.specs.Words.{outcomeNumber, outcomeWhere}
 
 -- the record that words hold. The two words of the file have their least byte first
 unfoldable pub sessionOf : List ℕ → Session
@@ -78,10 +78,10 @@ takenWord (Rejected r) old = old
 -- number, part and chunk of both questions
 abbrev pub askedWords : Asked → List ℕ
 askedWords a =
-    outcomeNumber (a .vendor .outcome)
-    ∷ (outcomeWhere (a .vendor .outcome)
-    ++ (outcomeNumber (a .firmware .outcome)
-    ∷ outcomeWhere (a .firmware .outcome)))
+    numberOf (a .vendor .outcome)
+    ∷ (whereOf (a .vendor .outcome)
+    ++ (numberOf (a .firmware .outcome)
+    ∷ whereOf (a .firmware .outcome)))
 
 -- both digests, one behind the other
 abbrev pub askedDigests : Asked → List ℕ

@@ -20,15 +20,6 @@ pub fn inputs(row: &[u8]) -> Inputs {
     }
 }
 
-fn as_file(row: &[u8], image: &[u8]) {
-    show::answer(image::check_file(lent(row, 0, image), inputs(row)));
-}
-
-// A slot has a page at least.
-fn as_slot(row: &[u8], image: &[u8]) {
-    show::answer(image::check_slot(lent(row, 4096, image), inputs(row)));
-}
-
 // How many bytes a part has, and their digest.
 fn print_part(label: usize, bytes: &[u8]) {
     show::number(label, bytes.len());
@@ -71,10 +62,11 @@ fn trust(row: &[u8]) {
     show::number(rows::SECRET, t.secret as usize);
 }
 
+// A slot has a page at least.
 pub fn answer(kind: usize, row: &[u8], image: &[u8]) {
     match kind {
-        rows::FILE => as_file(row, image),
-        rows::SLOT => as_slot(row, image),
+        rows::FILE => show::answer(image::check_file(lent(row, 0, image), inputs(row))),
+        rows::SLOT => show::answer(image::check_slot(lent(row, 4096, image), inputs(row))),
         rows::PARTS => parts(row, image),
         rows::DIGESTS => digests(row, image),
         _ => trust(row),

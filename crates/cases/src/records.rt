@@ -28,11 +28,6 @@ pub fn print_reply(reply: Reply) {
     }
 }
 
-fn print_words(first: [u8; 4], held: [u8; 4]) {
-    show::bytes(rows::FIRST, &first);
-    show::bytes(rows::HELD, &held);
-}
-
 fn print_session(s: Session) {
     let first = s.first;
     let held = s.held;
@@ -42,30 +37,23 @@ fn print_session(s: Session) {
     show::number(rows::PAGES, s.pages);
     show::number(rows::TAKEN, s.taken);
     show::number(rows::OPERATIONS, s.operations);
-    print_words(first, held);
+    show::bytes(rows::FIRST, &first);
+    show::bytes(rows::HELD, &held);
 }
 
-fn same_word(a: [u8; 4], b: [u8; 4]) -> bool {
-    starts_with(&a, &b)
-}
-
-fn same_words(a: Session, b: Session) -> bool {
+fn same_session(a: Session, b: Session) -> bool {
     let first = a.first;
     let held = a.held;
     let other_first = b.first;
     let other_held = b.held;
-    same_word(first, other_first) & same_word(held, other_held)
-}
-
-fn same_session(a: Session, b: Session) -> bool {
-    let words = same_words(a, b);
     (a.phase == b.phase)
         & (a.slot == b.slot)
         & (a.file == b.file)
         & (a.pages == b.pages)
         & (a.taken == b.taken)
         & (a.operations == b.operations)
-        & words
+        & starts_with(&first, &other_first)
+        & starts_with(&held, &other_held)
 }
 
 // One of the calls that may change a slot.

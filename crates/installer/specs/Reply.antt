@@ -24,3 +24,13 @@ whereOf Accepted = 0 ∷ 0 ∷ []
 whereOf Done = 0 ∷ 0 ∷ []
 whereOf (Refused number) = 0 ∷ 0 ∷ []
 whereOf (Rejected r) = r .part ∷ r .chunk ∷ []
+
+-- every value: number, part and chunk; and of a Fill how many bytes it took
+abbrev pub told : Reply → List ℕ
+told Begun = 0 ∷ 0 ∷ 0 ∷ []
+told Erased = 0 ∷ 0 ∷ 0 ∷ []
+told (Took k) = 0 ∷ 0 ∷ 0 ∷ k ∷ []
+told Accepted = 0 ∷ 0 ∷ 0 ∷ []
+told Done = 0 ∷ 0 ∷ 0 ∷ []
+told (Refused number) = number ∷ 0 ∷ 0 ∷ []
+told (Rejected r) = r .number ∷ r .part ∷ r .chunk ∷ []

@@ -1,7 +1,7 @@
 -- What both writers answer and leave in the output.
 -- Assumes nothing.
 use Prim.Native.Nat.{ℕ}
-use mathlib.Core.List.{List, _++_}
+use mathlib.Core.List.{List, [], _∷_, _++_}
 use lib.ListN.{length, drop}
 use Rattle.header.specs.declared.Outcome.{Outcome}
 use Rattle.header.specs.declared.Outcome.the-variants.{Pass, Refused}
@@ -12,6 +12,11 @@ use Rattle.writer.specs.declared.Written.the-variants.{Header, Not}
 abbrev pub numberOf : Written → ℕ
 numberOf (Header len) = 0
 numberOf (Not number) = number
+
+-- every value: the number, and of a success the header's length
+abbrev pub told : Written → List ℕ
+told (Header len) = 0 ∷ len ∷ []
+told (Not number) = number ∷ []
 
 -- the header's length, or the number of the first failing row
 abbrev pub answered : Outcome → ℕ → Written

@@ -2,9 +2,10 @@
 use denote.Ref.{now}
 use mathlib.Core.Path.{ap, _∙_}
 use Rattle.writer.specs.Writers.{numberOf}
+use Rattle.writer.specs.Firmware.{firmwareOutput}
 use Rattle.writer.specs.declared.Firmware.{Firmware}
 use Rattle.writer.specs.declared.Written.{Written}
-use Rattle.abi.specs.Headers.{writtenWord, firmwareOutput}
+use Rattle.abi.specs.Headers.{writtenWord}
 use borrow.Author.Needs.{needs}
 use Rattle.thimmorel.proofs.writers.thimmorel_write_firmware.Statement.{statement}
 use Rattle.thimmorel.proofs.writers.thimmorel_write_firmware.Tie as tie
