@@ -12,9 +12,6 @@ use installer::Reply;
 use installer::Session;
 use installer::Turn;
 use octets::byte_at;
-use octets::part;
-use octets::rest;
-use octets::starts_with;
 
 pub fn print_reply(reply: Reply) {
     match reply {
@@ -52,8 +49,8 @@ fn same_session(a: Session, b: Session) -> bool {
         & (a.pages == b.pages)
         & (a.taken == b.taken)
         & (a.operations == b.operations)
-        & starts_with(&first, &other_first)
-        & starts_with(&held, &other_held)
+        & octets::starts_with(&first, &other_first)
+        & octets::starts_with(&held, &other_held)
 }
 
 // One of the calls that may change a slot.
@@ -85,7 +82,7 @@ pub fn tried(which: usize, row: &[u8], s: Session, piece: &[u8], slot: &mut [u8]
 }
 
 fn word_at(bytes: &[u8], at: usize) -> [u8; 4] {
-    let tail = rest(bytes, at);
+    let tail = octets::rest(bytes, at);
     [
         byte_at(tail, 0),
         byte_at(tail, 1),
@@ -116,14 +113,14 @@ fn prepare(row: &[u8], image: &[u8], slot: &mut [u8]) {
     let taken = number(row, rows::TAKEN, 1, 0) as usize;
     let len = slot.len();
     fill(slot, 0, len, 255);
-    copy(slot, 4, part(image, 4, taken / 4 * 4));
+    copy(slot, 4, octets::part(image, 4, taken / 4 * 4));
     set(slot, number(row, rows::DIRTY, 1, 4294967295) as usize, 0);
 }
 
 // The next bytes of the image.
 fn piece<'a>(row: &[u8], image: &'a [u8]) -> &'a [u8] {
-    let next = rest(image, number(row, rows::TAKEN, 1, 0) as usize);
-    part(next, 0, number(row, rows::PIECE, 1, 4) as usize)
+    let next = octets::rest(image, number(row, rows::TAKEN, 1, 0) as usize);
+    octets::part(next, 0, number(row, rows::PIECE, 1, 4) as usize)
 }
 
 // What a call answered, and the record and the slot that it left.
@@ -176,13 +173,13 @@ pub fn record(row: &[u8], image: &[u8], b: &mut [u8]) {
     let from: usize = 0;
     let lent = number(row, rows::LENT, 1, 8192) as usize;
     if lent <= b.len() {
-        turns(row, part(image, 0, 8192), &mut b[from..lent]);
+        turns(row, octets::part(image, 0, 8192), &mut b[from..lent]);
     }
 }
 
 // A row of begin: the length of the slot that is lent, and the file's.
 pub fn begin(row: &[u8], b: &[u8]) {
-    let slot = part(b, 0, number(row, rows::LENT, 1, 8192) as usize);
+    let slot = octets::part(b, 0, number(row, rows::LENT, 1, 8192) as usize);
     let turn = installer::begin(slot, number(row, rows::FILE, 1, 1540) as usize);
     let session = turn.session;
     let reply = turn.reply;
