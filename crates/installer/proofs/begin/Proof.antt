@@ -7,6 +7,7 @@ use borrow.Author.Needs.{needs}
 use borrow.Author.Tests.{not-true, not-false}
 use Rattle.installer.specs.Record.{slotLenRight, fileLenRight}
 use Rattle.installer.specs.Calls.{beginOf}
+use Rattle.installer.proofs.Told.{turn-told}
 use Rattle.installer.proofs.begin.Statement.{statement}
 use Rattle.installer.proofs.begin.Tie as tie
 
@@ -27,13 +28,13 @@ begin-spec =
     (tie.spec
     (λ c κs. search needs)
     (λ c κs. search needs)
-    (λ c. rw (sym (slotTest (c .before .before)) ∙ not-true _ (c .before .if1 .taken)) (cc))
+    (λ c. turn-told (rw (sym (slotTest (c .before .before)) ∙ not-true _ (c .before .if1 .taken)) (cc)))
     (λ c κs. search needs)
     (λ c κs. search needs)
     (λ c.
     let b = c .before .before in
-    rw (sym (slotTest (b .before .before)) ∙ not-false _ (b .before .if1 .left), sym (fileTest b) ∙ not-true _ (c .before .if2 .taken)) (cc))
+    turn-told (rw (sym (slotTest (b .before .before)) ∙ not-false _ (b .before .if1 .left), sym (fileTest b) ∙ not-true _ (c .before .if2 .taken)) (cc)))
     (λ c κs. search needs)
     (λ c.
     let b = c .before .before in
-    rw (sym (slotTest (b .before .before)) ∙ not-false _ (b .before .if1 .left), sym (fileTest b) ∙ not-false _ (c .before .if2 .left)) (cc)))
+    turn-told (rw (sym (slotTest (b .before .before)) ∙ not-false _ (b .before .if1 .left), sym (fileTest b) ∙ not-false _ (c .before .if2 .left)) (cc))))
