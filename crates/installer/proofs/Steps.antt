@@ -11,6 +11,7 @@ use lib.Dec.{ltb}
 use borrow.Author.Tests.{ltb-true, ltb-false, eqb-true, lt-ltb, le-leb, ne-eqb}
 use lib.ListN.{length, take, length-append, length-take}
 use Rattle.octets.specs.Read.{startsWith}
+use Rattle.octets.proofs.Rounding.{whole-times}
 use Rattle.flash.specs.Flash.{erasedBytes}
 use Rattle.flash.specs.Operation.{wordOf, performed}
 use Rattle.flash.specs.declared.Operation.the-variants.{ErasePage, StoreWord}
@@ -39,7 +40,7 @@ module _ (found : List ℕ) (f : ℕ) where
 
   -- with the last page every byte is
   pub last-page : (p : Point) → Erasing found f p → p .past .erases + 1 ≡ pagesOf (length found) → pagesErased (p .past .erases + 1) found ≡ erasedBytes (length found)
-  last-page p e h = pages-all (p .past .erases + 1) found (omega (arith, e .sound .lengths .slotWhole))
+  last-page p e h = pages-all (p .past .erases + 1) found (ap (λ (k : ℕ). k * 4096) h ∙ whole-times 4096 (length found) (e .sound .lengths .slotWhole))
 
   pub erase-erasing : (p : Point) → Erasing found f p → Phase found f (advance (length found) f eraseCall p)
   erase-erasing p e = rw (e .isOpen, eraseAnswer, erase-allowed found f p e) (go (ltb (p .past .erases + 1) (pagesOf (length found))) refl)

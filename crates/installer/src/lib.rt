@@ -34,6 +34,8 @@ ghost use mathlib.Core.Path.{_≡_};
 ghost use lib.ListN.{length};
 ghost use Rattle.flash.specs.Operation.{performed, bytesOf};
 ghost use Rattle.flash.specs.Flash.{firstPageErased, firstWordStored};
+ghost use Rattle.header.specs.Outcome as outcome;
+ghost use Rattle.installer.specs.Reply.{told};
 ghost use Rattle.installer.specs.Calls.{beginOf, eraseOf, eraseSlot, fillOf, fillSlot, noDigest, askOf, turnOf, closeOf, closeSlot};
 
 // A session's record: its phase, the lengths of the slot and of the file as told at begin, pages
@@ -87,6 +89,7 @@ pub struct Asked {
 // is wrong, then 18 if the file's is.
 pub fn begin(slot: &[u8], file: usize) -> Turn
     ensures { λ r. ⌜ r ≡ beginOf (length (now (slot .entry))) file ⌝ }
+    ensures told { λ r. ⌜ told (r .reply) ≡ told (beginOf (length (now (slot .entry))) file .reply) ⌝ }
 {
     let n = slot.len();
     if !slot_len_right(n) {
@@ -162,6 +165,7 @@ fn turn_of(p: Plan) -> Turn
 // Erases the next page.
 pub fn erase(s: Session, slot: &mut [u8]) -> Turn
     ensures { λ r. ⌜ (r ≡ eraseOf s (now (slot .entry))) × (now (slot .exit) ≡ eraseSlot s (now (slot .entry))) ⌝ }
+    ensures told { λ r. ⌜ told (r .reply) ≡ told (eraseOf s (now (slot .entry)) .reply) ⌝ }
 {
     let p = plan_erase(s, slot);
     let operation = p.operation;
@@ -173,6 +177,7 @@ pub fn erase(s: Session, slot: &mut [u8]) -> Turn
 // stored at its place, except word 0, which the record keeps. 23 if that place is not erased.
 pub fn fill(s: Session, piece: &[u8], slot: &mut [u8]) -> Turn
     ensures { λ r. ⌜ (r ≡ fillOf s (now (piece .entry)) (now (slot .entry))) × (now (slot .exit) ≡ fillSlot s (now (piece .entry)) (now (slot .entry))) ⌝ }
+    ensures told { λ r. ⌜ told (r .reply) ≡ told (fillOf s (now (piece .entry)) (now (slot .entry)) .reply) ⌝ }
 {
     let p = plan_fill(s, piece, slot);
     let operation = p.operation;
@@ -194,6 +199,8 @@ fn no_digest() -> Digest
 // bytes are taken.
 pub fn ask(s: Session, slot: &[u8]) -> Asked
     ensures { λ r. ⌜ r ≡ askOf s (now (slot .entry)) ⌝ }
+    ensures vendor { λ r. ⌜ outcome.told (r .vendor .outcome) ≡ outcome.told (askOf s (now (slot .entry)) .vendor .outcome) ⌝ }
+    ensures firmware { λ r. ⌜ outcome.told (r .firmware .outcome) ≡ outcome.told (askOf s (now (slot .entry)) .firmware .outcome) ⌝ }
 {
     let n = slot.len();
     if !full(s, n) {
@@ -213,6 +220,7 @@ pub fn ask(s: Session, slot: &[u8]) -> Asked
 // before the last byte, then 23 if the first word is not erased.
 pub fn close(s: Session, given: Inputs, slot: &mut [u8]) -> Turn
     ensures { λ r. ⌜ (r ≡ closeOf s given (now (slot .entry))) × (now (slot .exit) ≡ closeSlot s given (now (slot .entry))) ⌝ }
+    ensures told { λ r. ⌜ told (r .reply) ≡ told (closeOf s given (now (slot .entry)) .reply) ⌝ }
 {
     let p = plan_close(s, given, slot);
     let operation = p.operation;

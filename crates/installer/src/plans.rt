@@ -21,6 +21,7 @@ ghost use Prim.Native.Nat.{_+_, _≤_, _<_};
 ghost use lib.ListN.{length};
 ghost use lib.Seq.{paste};
 ghost use Rattle.installer.specs.Record.{withBytes};
+ghost use Rattle.installer.specs.Reply.{told};
 ghost use Rattle.installer.specs.Calls.{plan, refused, erasePlan, takes, fillPlan, judged, closePlan, confirmOf};
 
 fn refused(s: Session, number: u32) -> Plan
@@ -36,6 +37,7 @@ fn refused(s: Session, number: u32) -> Plan
 // The next page is to be erased.
 pub fn plan_erase(s: Session, slot: &[u8]) -> Plan
     ensures { λ r. ⌜ r ≡ erasePlan s (now (slot .entry)) ⌝ }
+    ensures told { λ r. ⌜ told (r .reply) ≡ told (erasePlan s (now (slot .entry)) .reply) ⌝ }
 {
     let n = slot.len();
     let may = sound(s, n) & (s.pages < n / 4096);
@@ -109,6 +111,7 @@ fn took(
 // to be stored at its place, except word 0, which the record keeps. 23 if that place is not erased.
 pub fn plan_fill(s: Session, piece: &[u8], slot: &[u8]) -> Plan
     ensures { λ r. ⌜ r ≡ fillPlan s (now (piece .entry)) (now (slot .entry)) ⌝ }
+    ensures told { λ r. ⌜ told (r .reply) ≡ told (fillPlan s (now (piece .entry)) (now (slot .entry)) .reply) ⌝ }
 {
     let n = slot.len();
     let may = sound(s, n) & (s.pages == n / 4096);
@@ -159,6 +162,7 @@ fn judged(s: Session, answer: Answer) -> Plan
 // is over. 19 before the last byte, then 23 if the first word is not erased.
 pub fn plan_close(s: Session, given: Inputs, slot: &[u8]) -> Plan
     ensures { λ r. ⌜ r ≡ closePlan s given (now (slot .entry)) ⌝ }
+    ensures told { λ r. ⌜ told (r .reply) ≡ told (closePlan s given (now (slot .entry)) .reply) ⌝ }
 {
     if !full(s, slot.len()) {
         return refused(s, 19); // before the last byte
@@ -178,6 +182,7 @@ pub fn plan_close(s: Session, given: Inputs, slot: &[u8]) -> Plan
 // Answers Done if word 0 stands in the slot after a close that accepted, and 27 if it does not.
 pub fn confirm(s: Session, slot: &[u8]) -> Turn
     ensures { λ r. ⌜ r ≡ confirmOf s (now (slot .entry)) ⌝ }
+    ensures told { λ r. ⌜ told (r .reply) ≡ told (confirmOf s (now (slot .entry)) .reply) ⌝ }
 {
     if !waiting(s, slot.len()) {
         return Turn {

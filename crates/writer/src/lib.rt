@@ -32,6 +32,7 @@ ghost use Rattle.octets.specs.Rounding.{roundUp};
 ghost use Rattle.header.specs.Layout.{pictureStart};
 ghost use Rattle.header.specs.Table.{firstFailing};
 ghost use Rattle.image.specs.Chunks.{hashesOf};
+ghost use Rattle.writer.specs.Writers.{told};
 ghost use Rattle.writer.specs.Vendor.{vendorHead, vendorFront, vendorBack, vendorRefusals, vendorAnswer, vendorOutput};
 ghost use Rattle.writer.specs.Firmware.{joined, firmwareHead, firmwareFields, firmwareRefusals, firmwareAnswer, firmwareOutput};
 
@@ -190,6 +191,7 @@ pub fn write_vendor(
         (r ≡ vendorAnswer f (now (keys .entry)) (now (string .entry)) (now (picture .entry)) (now (out .entry)))
         × (now (out .exit) ≡ vendorOutput f (now (keys .entry)) (now (string .entry)) (now (picture .entry)) (now (sig .entry)) (now (out .entry)))
         ⌝ }
+    ensures told { λ r. ⌜ told r ≡ told (vendorAnswer f (now (keys .entry)) (now (string .entry)) (now (picture .entry)) (now (out .entry))) ⌝ }
 {
     let refusal = vendor_refusals(f, keys.len(), string.len(), picture.len(), out.len());
     if let Outcome::Refused(r) = refusal {
@@ -328,6 +330,7 @@ pub fn write_firmware(v: u32, f: Firmware, code: &[u8], sig: &[u8; 64], out: &mu
         (r ≡ firmwareAnswer v (now (code .entry)) (now (out .entry)))
         × (now (out .exit) ≡ firmwareOutput v f (now (code .entry)) (now (sig .entry)) (now (out .entry)))
         ⌝ }
+    ensures told { λ r. ⌜ told r ≡ told (firmwareAnswer v (now (code .entry)) (now (out .entry))) ⌝ }
 {
     let refusal = firmware_refusals(v, code.len(), out.len());
     if let Outcome::Refused(r) = refusal {

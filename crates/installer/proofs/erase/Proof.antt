@@ -1,5 +1,6 @@
 -- The plan's operation is made, and what is left of the plan comes back.
 use borrow.Author.Needs.{needs}
+use Rattle.installer.proofs.Told.{turn-and-slot-told}
 use Rattle.installer.proofs.erase.Statement.{statement}
 use Rattle.installer.proofs.erase.Tie as tie
 
@@ -14,4 +15,4 @@ erase-spec =
     (λ c.
     let p = c .before .before .before in
     let q = p .before .before in
-    (rw (← q .plan-erase .ensures) (c .turn-of .ensures), rw (← q .plan-erase .ensures) (p .perform .ensures))))
+    turn-and-slot-told (rw (← q .plan-erase .ensures .0) (c .turn-of .ensures), rw (← q .plan-erase .ensures .0) (p .perform .ensures))))

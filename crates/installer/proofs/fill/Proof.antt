@@ -1,5 +1,6 @@
 -- The plan's operation is made, and what is left of the plan comes back.
 use borrow.Author.Needs.{needs}
+use Rattle.installer.proofs.Told.{turn-and-slot-told}
 use Rattle.installer.proofs.fill.Statement.{statement}
 use Rattle.installer.proofs.fill.Tie as tie
 
@@ -14,4 +15,4 @@ fill-spec =
     (λ c.
     let p = c .before .before .before in
     let q = p .before .before in
-    (rw (← q .plan-fill .ensures) (c .turn-of .ensures), rw (← q .plan-fill .ensures) (p .perform .ensures))))
+    turn-and-slot-told (rw (← q .plan-fill .ensures .0) (c .turn-of .ensures), rw (← q .plan-fill .ensures .0) (p .perform .ensures))))

@@ -1,5 +1,6 @@
 -- Each return is one case of the definition.
 use borrow.Author.Needs.{needs}
+use Rattle.installer.proofs.Told.{turn-told}
 use borrow.Author.Tests.{not-true, not-false}
 use mathlib.Core.Path.{sym, ap, _∙_}
 use Rattle.installer.specs.Calls.{turn}
@@ -13,15 +14,15 @@ confirm-spec =
     tie.close
     (tie.spec
     (λ c κs. search needs)
-    (λ c. rw (sym (c .before .waiting .ensures) ∙ not-true _ (c .if1 .taken)))
+    (λ c. turn-told (rw (sym (c .before .waiting .ensures) ∙ not-true _ (c .if1 .taken))))
     (λ c. search needs)
     (λ c κs. search needs)
     (λ c.
     let b = c .before in
     let e = b .before .before .before in
-    rw (sym (e .before .waiting .ensures) ∙ not-false _ (e .if1 .left), sym (b .starts-with .ensures) ∙ not-true _ (c .if2 .taken)))
+    turn-told (rw (sym (e .before .waiting .ensures) ∙ not-false _ (e .if1 .left), sym (b .starts-with .ensures) ∙ not-true _ (c .if2 .taken))))
     (λ c κs. search needs)
     (λ c.
     let b = c .before .before in
     let e = b .before .before .before in
-    rw (sym (e .before .waiting .ensures) ∙ not-false _ (e .if1 .left), sym (b .starts-with .ensures) ∙ not-false _ (c .before .if2 .left)) (ap (λ (s : Session). turn s Done) (c .with-phase .ensures))))
+    turn-told (rw (sym (e .before .waiting .ensures) ∙ not-false _ (e .if1 .left), sym (b .starts-with .ensures) ∙ not-false _ (c .before .if2 .left)) (ap (λ (s : Session). turn s Done) (c .with-phase .ensures)))))

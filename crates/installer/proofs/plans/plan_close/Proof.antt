@@ -15,6 +15,7 @@ use Rattle.installer.specs.Record.{full}
 use Rattle.installer.specs.Calls.{fileIn, judged, closePlan}
 use Rattle.installer.proofs.Facts.{Sound, passed-full, barred-full}
 use borrow.Author.Needs.{needs}
+use Rattle.installer.proofs.Told.{plan-told}
 use Rattle.installer.proofs.plans.plan_close.Statement.{statement}
 use Rattle.installer.proofs.plans.plan_close.Tie as tie
 
@@ -39,15 +40,15 @@ free b = sym (b .starts-erased .ensures)
 
 -- the check's answer is that on the file, word 0 from the record
 abbrev checked : (k : tie.After-check-file-word-apart) → k .check-file-word-apart .result ≡ checkFile (fileIn (recordOf (opened (k .before .before .before .before))) (slotOf (opened (k .before .before .before .before)))) (start (opened (k .before .before .before .before)) .args .given)
-checked k = k .check-file-word-apart .ensures
+checked k = k .check-file-word-apart .ensures .0
 
 returns : tie.Need-returns
-returns c = rw (barred-full _ _ _ (c .before .before .full .ensures) (c .before .if1 .taken)) (c .refused .ensures)
+returns c = plan-told (rw (barred-full _ _ _ (c .before .before .full .ensures) (c .before .if1 .taken)) (c .refused .ensures))
 
 returns-2 : tie.Need-returns-2
 returns-2 c =
     let b : tie.After-starts-erased = c .before .before in
-    rw (ready (opened b) .1, free b ∙ not-true (b .starts-erased .result) (c .before .if2 .taken)) (c .refused2 .ensures)
+    plan-told (rw (ready (opened b) .1, free b ∙ not-true (b .starts-erased .result) (c .before .if2 .taken)) (c .refused2 .ensures))
 
 slice-aggregate-check-file-word-apart : tie.Need-slice-aggregate-check-file-word-apart
 slice-aggregate-check-file-word-apart c =
@@ -77,6 +78,6 @@ plan-close-spec =
     (λ c. search needs)
     (λ c. search needs)
     (λ c κs. omega (arith, ready (opened (c .before .before .before .before .before .before))))
-    (λ c. c .judged .ensures ∙ sym (judges (c .before .before .before)))
+    (λ c. plan-told (c .judged .ensures ∙ sym (judges (c .before .before .before))))
     (λ c κs. omega (arith, ready (opened (c .before .before .before .before .before .before))))
-    (λ c. c .judged2 .ensures ∙ sym (judges (c .before .before .before))))
+    (λ c. plan-told (c .judged2 .ensures ∙ sym (judges (c .before .before .before)))))

@@ -14,6 +14,7 @@ use Rattle.installer.specs.Calls.{inFirstWord}
 use Rattle.installer.proofs.Facts.{Sound, passed, barred}
 use Rattle.installer.proofs.Parts.{part-whole}
 use borrow.Author.Needs.{needs}
+use Rattle.installer.proofs.Told.{plan-told}
 use Rattle.installer.proofs.plans.plan_fill.Statement.{statement}
 use Rattle.installer.proofs.plans.plan_fill.Tie as tie
 
@@ -44,19 +45,19 @@ abbrev free : (c : tie.After-starts-erased) → startsErased (drop (place (opene
 free c = ap startsErased (sym (part-whole (place (opened (c .before .before .before .before))) (slotOf (opened (c .before .before .before .before))))) ∙ sym (c .starts-erased .ensures)
 
 returns : tie.Need-returns
-returns c = rw (barred _ _ _ _ (c .before .before .before .sound .ensures) (c .before .if1 .taken)) (c .refused .ensures)
+returns c = plan-told (rw (barred _ _ _ _ (c .before .before .before .sound .ensures) (c .before .if1 .taken)) (c .refused .ensures))
 
 returns-2 : tie.Need-returns-2
 returns-2 c =
     let j : tie.After-join = c .before .before in
-    rw (← j .before .takes .ensures, ← j .join .ensures, turn (opened j), ne-eqb _ _ (c .before .if2 .taken)) (c .took .ensures)
+    plan-told (rw (← j .before .takes .ensures, ← j .join .ensures, turn (opened j), ne-eqb _ _ (c .before .if2 .taken)) (c .took .ensures))
 
 returns-3 : tie.Need-returns-3
 returns-3 c =
     let j : tie.After-join = c .before .before .before in
     let e = eq-eqb _ _ (c .before .before .if2 .left) in
     let f : inFirstWord (recordOf (opened j)) ≡ true = lt-ltb _ _ (c .before .if3 .taken) in
-    rw (← j .before .takes .ensures, ← j .join .ensures, turn (opened j), e, f) (c .took2 .ensures)
+    plan-told (rw (← j .before .takes .ensures, ← j .join .ensures, turn (opened j), e, f) (c .took2 .ensures))
 
 returns-4 : tie.Need-returns-4
 returns-4 c =
@@ -65,7 +66,7 @@ returns-4 c =
     let e = eq-eqb _ _ (b .before .before .before .if2 .left) in
     let f : inFirstWord (recordOf (opened j)) ≡ false = le-ltb _ _ (b .before .before .if3 .left) in
     let g = free b ∙ not-true (b .starts-erased .result) (c .before .if4 .taken) in
-    rw (← j .before .takes .ensures, ← j .join .ensures, turn (opened j), e, f, g) (c .refused2 .ensures)
+    plan-told (rw (← j .before .takes .ensures, ← j .join .ensures, turn (opened j), e, f, g) (c .refused2 .ensures))
 
 took-requires-3 : tie.Need-took-requires-3
 took-requires-3 c κs =
@@ -79,8 +80,9 @@ returns-5 c =
     let e = eq-eqb _ _ (b .before .before .before .if2 .left) in
     let f : inFirstWord (recordOf (opened j)) ≡ false = le-ltb _ _ (b .before .before .if3 .left) in
     let g = free b ∙ not-false (b .starts-erased .result) (c .before .before .if4 .left) in
-    rw (← j .before .takes .ensures, ← j .join .ensures, turn (opened j), e, f, g)
-    (rw (c .before .word-of .ensures) at (c .took3 .ensures))
+    plan-told
+    (rw (← j .before .takes .ensures, ← j .join .ensures, turn (opened j), e, f, g)
+    (rw (c .before .word-of .ensures) at (c .took3 .ensures)))
 
 pub plan-fill-spec : {M : Type 1} → statement M
 plan-fill-spec =

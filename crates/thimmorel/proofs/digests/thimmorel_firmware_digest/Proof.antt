@@ -12,7 +12,7 @@ returns : tie.Need-returns
 returns c =
     let k = c .before .before .before in
     let digest = now (k .before .before .args .digest) in
-    let e = k .firmware-digest .ensures in
+    let e = k .firmware-digest .ensures .0 in
     let t = c .tell .ensures in (
       t .0 ∙ ap (λ (x : Digest). numberOf (x .outcome)) e,
       (t .1 .0 ∙ ap (λ (x : Digest). whereOf (x .outcome)) e, t .1 .1 ∙ ap (λ (x : Digest). digestBytes (x .outcome) (x .digest) digest) e),

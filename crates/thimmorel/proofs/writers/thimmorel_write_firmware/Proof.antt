@@ -15,7 +15,7 @@ returns c =
     let k = c .before .before .before .before in
     let f = k .before .before in
     let a = f .before .before .before .before .before .args in
-    let w = k .write-firmware .ensures in
+    let w = k .write-firmware .ensures .0 in
     let t = c .tell .ensures in (
       t .0 ∙ ap numberOf (w .0),
       (
