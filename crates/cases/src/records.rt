@@ -1,8 +1,5 @@
 // Rows of single calls of the installer: begin, and every other call on a record, also on one that is
 // inconsistent. The slot holds what the record says: the words stored so far, and erased bytes.
-use crate::build::copy;
-use crate::build::fill;
-use crate::build::set;
 use crate::checks::inputs;
 use crate::checks::print_digest;
 use crate::rows;
@@ -11,7 +8,6 @@ use crate::show;
 use installer::Reply;
 use installer::Session;
 use installer::Turn;
-use octets::byte_at;
 
 pub fn print_reply(reply: Reply) {
     match reply {
@@ -38,6 +34,10 @@ fn print_session(s: Session) {
     show::bytes(rows::HELD, &held);
 }
 
+fn same_word(a: [u8; 4], b: [u8; 4]) -> bool {
+    octets::starts_with(&a, &b)
+}
+
 fn same_session(a: Session, b: Session) -> bool {
     let first = a.first;
     let held = a.held;
@@ -49,8 +49,8 @@ fn same_session(a: Session, b: Session) -> bool {
         & (a.pages == b.pages)
         & (a.taken == b.taken)
         & (a.operations == b.operations)
-        & octets::starts_with(&first, &other_first)
-        & octets::starts_with(&held, &other_held)
+        & same_word(first, other_first)
+        & same_word(held, other_held)
 }
 
 // One of the calls that may change a slot.
@@ -84,10 +84,10 @@ pub fn tried(which: usize, row: &[u8], s: Session, piece: &[u8], slot: &mut [u8]
 fn word_at(bytes: &[u8], at: usize) -> [u8; 4] {
     let tail = octets::rest(bytes, at);
     [
-        byte_at(tail, 0),
-        byte_at(tail, 1),
-        byte_at(tail, 2),
-        byte_at(tail, 3),
+        octets::byte_at(tail, 0),
+        octets::byte_at(tail, 1),
+        octets::byte_at(tail, 2),
+        octets::byte_at(tail, 3),
     ]
 }
 
@@ -112,9 +112,9 @@ fn session(row: &[u8], image: &[u8]) -> Session {
 fn prepare(row: &[u8], image: &[u8], slot: &mut [u8]) {
     let taken = number(row, rows::TAKEN, 1, 0) as usize;
     let len = slot.len();
-    fill(slot, 0, len, 255);
-    copy(slot, 4, octets::part(image, 4, taken / 4 * 4));
-    set(slot, number(row, rows::DIRTY, 1, 4294967295) as usize, 0);
+    crate::build::fill(slot, 0, len, 255);
+    crate::build::copy(slot, 4, octets::part(image, 4, taken / 4 * 4));
+    crate::build::set(slot, number(row, rows::DIRTY, 1, 4294967295) as usize, 0);
 }
 
 // The next bytes of the image.
