@@ -1,14 +1,14 @@
 // Rows of whole installs: begin, every erase, pieces of one length or of all, and close, with refused
 // calls between all others where a row asks for them. Then what the slot holds, and what the boot check
 // says of it.
-use crate::build::fill;
-use crate::checks::inputs;
 use crate::records;
 use crate::records::call;
 use crate::records::tried;
-use crate::rows;
-use crate::rows::number;
-use crate::show;
+use case_images::checks::inputs;
+use case_rows::build::fill;
+use case_rows::rows;
+use case_rows::rows::number;
+use case_rows::show;
 use installer::Reply;
 use installer::Session;
 use installer::Turn;

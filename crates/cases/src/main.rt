@@ -1,14 +1,14 @@
 // Cases of the whole library, a line each. The rows stand in the file `stdin`; the program writes each
 // as it stands and the answer behind it. Blank lines and lines that start with `#` are copied. What
 // each line must say is worked out by `tools/cases` from the specification alone.
-mod build;
-mod checks;
 mod installs;
 mod records;
-mod rows;
-mod show;
-mod writers;
 
+use case_images::checks;
+use case_images::writers;
+use case_rows::build;
+use case_rows::rows;
+use case_rows::show;
 use libc::STDIN_FILENO;
 
 // The answer to a row, by the module that its first word stands for.

@@ -1,10 +1,10 @@
 // Rows of single calls of the installer: begin, and every other call on a record, also on one that is
 // inconsistent. The slot holds what the record says: the words stored so far, and erased bytes.
-use crate::checks::inputs;
-use crate::checks::print_digest;
-use crate::rows;
-use crate::rows::number;
-use crate::show;
+use case_images::checks::inputs;
+use case_images::checks::print_digest;
+use case_rows::rows;
+use case_rows::rows::number;
+use case_rows::show;
 use installer::Reply;
 use installer::Session;
 use installer::Turn;
@@ -112,9 +112,9 @@ fn session(row: &[u8], image: &[u8]) -> Session {
 fn prepare(row: &[u8], image: &[u8], slot: &mut [u8]) {
     let taken = number(row, rows::TAKEN, 1, 0) as usize;
     let len = slot.len();
-    crate::build::fill(slot, 0, len, 255);
-    crate::build::copy(slot, 4, octets::part(image, 4, taken / 4 * 4));
-    crate::build::set(slot, number(row, rows::DIRTY, 1, 4294967295) as usize, 0);
+    case_rows::build::fill(slot, 0, len, 255);
+    case_rows::build::copy(slot, 4, octets::part(image, 4, taken / 4 * 4));
+    case_rows::build::set(slot, number(row, rows::DIRTY, 1, 4294967295) as usize, 0);
 }
 
 // The next bytes of the image.
