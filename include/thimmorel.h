@@ -401,7 +401,7 @@ uint32_t thimmorel_write_firmware(uint32_t v, uint32_t expiry, const uint8_t ver
  *
  * | word | meaning |
  * |---|---|
- * | 0 | 1 if the session is open, 0 if it is over |
+ * | 0 | the phase: 1 if the session is open, 0 if it is over |
  * | 1 | length of the slot |
  * | 2 | length of the file |
  * | 3 | pages erased |
@@ -409,7 +409,7 @@ uint32_t thimmorel_write_firmware(uint32_t v, uint32_t expiry, const uint8_t ver
  * | 5 | operations made since begin; at Done they are slot / 4,096 + file / 4 |
  * | 6 | first word of the file, once it is complete; little-endian |
  * | 7 | word in progress: the bytes of it that are taken; little-endian |
- * | 8 to 15 | reserved: no call reads them, and a call that writes the record writes 0 |
+ * | 8 to 15 | reserved: begin writes 0, every other call leaves them, and no call reads them |
  *
  * Any 16 words are allowed and get an answer. A call answers 19
  *

@@ -2,12 +2,12 @@
 -- and every record that a call gives is such a one. Assumes nothing.
 use mathlib.Core.Path.{_≡_, refl, ap, _∙_}
 use mathlib.Core.List.{List, [], _∷_, _++_}
-use mathlib.Core.Bool.{Bool, true, false, not, cond, _&&_}
+use mathlib.Core.Bool.{Bool, true, false, not, _&&_}
 use Prim.Native.Nat.{ℕ, zero, suc, _+_, _-_, _%_, _≤_, _<_}
 use native.Mathlib.Omega.{arith}
 use native.Mathlib.Nat.{mod-eq-of-lt}
 use lib.Dec.{eqb, leb}
-use lib.ListN.{length, getD, take, drop}
+use lib.ListN.{length, getD, take, drop, replicate}
 use lib.Seq.{take-all, getD-drop, paste, length-paste}
 use borrow.Author.Tests.{leb-true}
 use Rattle.octets.specs.Read.{u32At, between, bytesAt}
@@ -19,11 +19,11 @@ use Rattle.flash.specs.Flash.{startsErased}
 use Rattle.image.specs.Check.{checkFile}
 use Rattle.image.specs.declared.Answer.{Answer}
 use Rattle.image.specs.declared.Answer.the-variants.{Accepted, Rejected}
-use Rattle.installer.specs.Record.{slotLenRight, fileLenRight, pagesOf, sound, erasing, filling, full, newRecord, withPage, withBytes, over}
-use Rattle.installer.specs.Calls.{beginOf, eraseOf, takenBy, joined, wordAt, inFirstWord, filled, fileIn, closeBy}
+use Rattle.installer.specs.Record.{over, live, slotLenRight, fileLenRight, pagesOf, sound, erasing, filling, full, newRecord, withPage, withBytes, withPhase}
+use Rattle.installer.specs.Calls.{beginOf, eraseOf, takenBy, joined, wordAt, inFirstWord, filled, fileIn, closeBy, turnOf}
 use Rattle.installer.specs.declared.Session.{Session}
 use Rattle.installer.proofs.Facts.{passed, passed-full}
-use Rattle.abi.specs.Session.{sessionOf, wordsOf, wordsAfter}
+use Rattle.abi.specs.Session.{sessionOf, wordsOver, wordsOf, wordsAfter}
 use Rattle.abi.specs.Carried.{WordsCarryTheRecord}
 
 -- ---- words of four bytes
@@ -87,11 +87,6 @@ word-back x w =
     ∙ bytes-between 4 x 0 (omega (arith, w .four))
     ∙ take-all 4 x (omega (arith, w .four))
 
--- 1 is a session that is live, and 0 one that is over
-live-back : (b : Bool) → eqb (cond b 1 0) 1 ≡ b
-live-back true = refl
-live-back false = refl
-
 -- each number of a record is below 2 ^ 32
 record Fits (t : Session) : Type 0 where
   pub slot : t .slot < 4294967296
@@ -100,12 +95,11 @@ record Fits (t : Session) : Type 0 where
   pub taken : t .taken < 4294967296
   pub operations : t .operations < 4294967296
 
--- a record that fits is read back
-read-back : (t : Session) → Fits t → Word (t .first) → Word (t .held) → sessionOf (wordsOf t) ≡ t
-unfolding sessionOf wordsOf
-read-back t h first held =
+-- a record that fits is read back, whatever the words were before
+read-back : (old : List ℕ) (t : Session) → Fits t → Word (t .first) → Word (t .held) → sessionOf (wordsOver old t) ≡ t
+unfolding sessionOf wordsOver
+read-back old t h first held =
     rw (
-      live-back (t .live),
       mod-eq-of-lt (h .slot),
       mod-eq-of-lt (h .file),
       mod-eq-of-lt (h .pages),
@@ -118,8 +112,8 @@ read-back t h first held =
 -- ---- begin
 
 -- a new record is read back
-new-back : (live : Bool) (n f : ℕ) → n ≤ 2097152 → f ≤ n → sessionOf (wordsOf (newRecord live n f)) ≡ newRecord live n f
-new-back live n f h g = read-back (newRecord live n f) (omega arith) (number-word 0) (number-word 0)
+new-back : (phase n f : ℕ) → n ≤ 2097152 → f ≤ n → sessionOf (wordsOf (newRecord phase n f)) ≡ newRecord phase n f
+new-back phase n f h g = read-back (replicate 16 0) (newRecord phase n f) (omega arith) (number-word 0) (number-word 0)
 
 -- a slot's length that begin takes is at most 2,097,152
 slot-most : (n : ℕ) → slotLenRight n ≡ true → n ≤ 2097152
@@ -137,9 +131,9 @@ unfolding beginOf
 begin-carried n f = go (slotLenRight n) refl (fileLenRight n f) refl
   where
     go : (a : Bool) → slotLenRight n ≡ a → (b : Bool) → fileLenRight n f ≡ b → sessionOf (wordsOf (beginOf n f .session)) ≡ beginOf n f .session
-    go true p true q = rw (p, q) (new-back true n f (slot-most n p) (file-most n f q))
-    go true p false q = rw (p, q) (new-back false 0 0 (omega arith) (omega arith))
-    go false p b q = rw p (new-back false 0 0 (omega arith) (omega arith))
+    go true p true q = rw (p, q) (new-back live n f (slot-most n p) (file-most n f q))
+    go true p false q = rw (p, q) (new-back over 0 0 (omega arith) (omega arith))
+    go false p b q = rw p (new-back over 0 0 (omega arith) (omega arith))
 
 -- ---- erase, fill and close, on the record that words hold
 
@@ -174,23 +168,23 @@ module _ (w slot : List ℕ) where
       go true p =
           let f = passed s n (sound s n) (leb (s .pages + 1) (pagesOf n)) refl (ap not p) in
           let more : s .pages + 1 ≤ pagesOf n = leb-true (s .pages + 1) (pagesOf n) (f .1) in
-          rw p (read-back (withPage s) (omega (arith, f .0)) (first-word w) (held-word w))
+          rw p (read-back w (withPage s) (omega (arith, f .0)) (first-word w) (held-word w))
       go false p = rw p
 
   -- a record with k bytes more, no more than the file has, is read back
   bytes-back : (k : ℕ) (held first : List ℕ) (stored : ℕ) → filling s n ≡ true → k ≤ s .file - s .taken → stored ≤ 1 → Word held → Word first
-      → sessionOf (wordsOf (withBytes s k held first stored)) ≡ withBytes s k held first stored
+      → sessionOf (wordsOver w (withBytes s k held first stored)) ≡ withBytes s k held first stored
   bytes-back k held first stored p h o x y =
       let f = passed s n (sound s n) (eqb (s .pages) (pagesOf n)) refl (ap not p) in
-      read-back (withBytes s k held first stored) (omega (arith, f .0)) y x
+      read-back w (withBytes s k held first stored) (omega (arith, f .0)) y x
 
   -- the words that fill leaves hold the record that it gave, where it takes k bytes, which make the word x
-  fill-carried : (k : ℕ) (x : List ℕ) → k ≤ s .file - s .taken → Word x → sessionOf (wordsAfter (filled s k x slot) w) ≡ filled s k x slot .session
+  fill-carried : (k : ℕ) (x : List ℕ) → k ≤ s .file - s .taken → Word x → sessionOf (wordsAfter (turnOf (filled s k x slot)) w) ≡ turnOf (filled s k x slot) .session
   fill-carried k x h v =
       go (filling s n) refl (eqb (s .taken % 4 + k) 4) refl (inFirstWord s) refl (startsErased (drop (wordAt s) slot)) refl
     where
       go : (a : Bool) → filling s n ≡ a → (b : Bool) → eqb (s .taken % 4 + k) 4 ≡ b → (c : Bool) → inFirstWord s ≡ c
-          → (d : Bool) → startsErased (drop (wordAt s) slot) ≡ d → sessionOf (wordsAfter (filled s k x slot) w) ≡ filled s k x slot .session
+          → (d : Bool) → startsErased (drop (wordAt s) slot) ≡ d → sessionOf (wordsAfter (turnOf (filled s k x slot)) w) ≡ turnOf (filled s k x slot) .session
       go false p b q c r d e = rw p
       go true p false q c r d e = rw (p, q) (bytes-back k x (s .first) 0 p h (omega arith) v (first-word w))
       go true p true q true r d e = rw (p, q, r) (bytes-back k x x 0 p h (omega arith) v v)
@@ -198,17 +192,17 @@ module _ (w slot : List ℕ) where
       go true p true q false r false e = rw (p, q, r, e)
 
   -- a session that is over, after at most one operation more, is read back
-  over-back : (operations : ℕ) → full s n ≡ true → operations ≤ s .operations + 1 → sessionOf (wordsOf (over s operations)) ≡ over s operations
+  over-back : (operations : ℕ) → full s n ≡ true → operations ≤ s .operations + 1 → sessionOf (wordsOver w (withPhase s over operations)) ≡ withPhase s over operations
   over-back operations p h =
       let f = passed-full s n (full s n) refl (ap not p) in
-      read-back (over s operations) (omega (arith, f .0)) (first-word w) (held-word w)
+      read-back w (withPhase s over operations) (omega (arith, f .0)) (first-word w) (held-word w)
 
   -- the words that close leaves hold the record that it gave, whatever the check answers
-  close-carried : (answer : Answer) → sessionOf (wordsAfter (closeBy s answer slot) w) ≡ closeBy s answer slot .session
+  close-carried : (answer : Answer) → sessionOf (wordsAfter (turnOf (closeBy s answer slot)) w) ≡ turnOf (closeBy s answer slot) .session
   close-carried answer = go answer (full s n) refl (startsErased slot) refl
     where
       go : (answer : Answer) (a : Bool) → full s n ≡ a → (b : Bool) → startsErased slot ≡ b
-          → sessionOf (wordsAfter (closeBy s answer slot) w) ≡ closeBy s answer slot .session
+          → sessionOf (wordsAfter (turnOf (closeBy s answer slot)) w) ≡ turnOf (closeBy s answer slot) .session
       go (Accepted i) true p true q = rw (p, q) (over-back (s .operations + 1) p (omega arith))
       go (Rejected r) true p true q = rw (p, q) (over-back (s .operations) p (omega arith))
       go answer true p false q = rw (p, q)

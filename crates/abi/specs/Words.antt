@@ -37,14 +37,6 @@ imageWords (Rejected r) old = old
 
 -- ---- a digest question's answer
 
-abbrev pub outcomeNumber : Outcome → ℕ
-outcomeNumber Pass = 0
-outcomeNumber (Refused r) = r .number
-
-abbrev pub outcomeWhere : Outcome → List ℕ
-outcomeWhere Pass = 0 ∷ 0 ∷ []
-outcomeWhere (Refused r) = r .part ∷ r .chunk ∷ []
-
 -- the digest where the question is answered; after a refusal the bytes stay as they were
 abbrev pub digestBytes : Outcome → List ℕ → List ℕ → List ℕ
 digestBytes Pass digest old = digest

@@ -5,11 +5,12 @@ use octets::put::put_bytes;
 use signing::Digest;
 ghost use mathlib.Core.Path.{_≡_};
 ghost use mathlib.Core.List.{_++_};
-ghost use Rattle.abi.specs.Words.{outcomeNumber, outcomeWhere, digestBytes};
+ghost use Rattle.header.specs.Outcome.{numberOf, whereOf};
+ghost use Rattle.abi.specs.Words.{digestBytes};
 ghost use Rattle.abi.specs.Session.{askedWords, askedDigests};
 
 fn outcome_number(outcome: Outcome) -> u32
-    ensures { λ r. ⌜ r ≡ outcomeNumber outcome ⌝ }
+    ensures { λ r. ⌜ r ≡ numberOf outcome ⌝ }
 {
     match outcome {
         Outcome::Pass => 0,
@@ -18,7 +19,7 @@ fn outcome_number(outcome: Outcome) -> u32
 }
 
 fn outcome_where(outcome: Outcome) -> [u32; 2]
-    ensures { λ r. ⌜ r ≡ outcomeWhere outcome ⌝ }
+    ensures { λ r. ⌜ r ≡ whereOf outcome ⌝ }
 {
     match outcome {
         Outcome::Pass => [0, 0],
@@ -38,8 +39,8 @@ fn digest_bytes(outcome: Outcome, digest: [u8; 32], old: [u8; 32]) -> [u8; 32]
 // The outcome's number comes back, its part and chunk go to place, and the digest to digest, which a
 // refusal leaves as it was.
 pub fn tell(answer: Digest, place: &mut [u32; 2], digest: &mut [u8; 32]) -> u32
-    ensures { λ r. ⌜ r ≡ outcomeNumber (answer .outcome) ⌝ }
-    ensures { λ r. ⌜ now (place .exit) ≡ outcomeWhere (answer .outcome) ⌝ }
+    ensures { λ r. ⌜ r ≡ numberOf (answer .outcome) ⌝ }
+    ensures { λ r. ⌜ now (place .exit) ≡ whereOf (answer .outcome) ⌝ }
     ensures { λ r. ⌜ now (digest .exit) ≡ digestBytes (answer .outcome) (answer .digest) (now (digest .entry)) ⌝ }
 {
     let outcome = answer.outcome;

@@ -1,12 +1,12 @@
 // What the installer's calls answer, as words: the number, the part and chunk, the count, and the
 // record.
 use crate::number::count;
-use crate::session::words_of;
+use crate::session::words_over;
 use installer::Reply;
 use installer::Turn;
 ghost use mathlib.Core.Path.{_≡_};
 ghost use Rattle.installer.specs.Reply.{numberOf, whereOf};
-ghost use Rattle.abi.specs.Session.{wordsOf, recordAfter, wordsAfter, takenWord};
+ghost use Rattle.abi.specs.Session.{wordsOf, wordsOver, recordAfter, wordsAfter, takenWord};
 
 fn number_of(reply: Reply) -> u32
     ensures { λ r. ⌜ r ≡ numberOf reply ⌝ }
@@ -15,6 +15,7 @@ fn number_of(reply: Reply) -> u32
         Reply::Begun => 0,
         Reply::Erased => 0,
         Reply::Took(_) => 0,
+        Reply::Accepted => 0,
         Reply::Done => 0,
         Reply::Refused(number) => number,
         Reply::Rejected(r) => r.number,
@@ -28,6 +29,7 @@ fn where_words(reply: Reply) -> [u32; 2]
         Reply::Begun => [0, 0],
         Reply::Erased => [0, 0],
         Reply::Took(_) => [0, 0],
+        Reply::Accepted => [0, 0],
         Reply::Done => [0, 0],
         Reply::Refused(_) => [0, 0],
         Reply::Rejected(r) => [r.part, r.chunk],
@@ -41,6 +43,7 @@ fn taken_word(reply: Reply, old: [u32; 1]) -> [u32; 1]
         Reply::Begun => old,
         Reply::Erased => old,
         Reply::Took(k) => count(k),
+        Reply::Accepted => old,
         Reply::Done => old,
         Reply::Refused(_) => old,
         Reply::Rejected(_) => old,
@@ -54,6 +57,7 @@ fn record_after(reply: Reply, words: [u32; 16], old: [u32; 16]) -> [u32; 16]
         Reply::Begun => words,
         Reply::Erased => words,
         Reply::Took(_) => words,
+        Reply::Accepted => words,
         Reply::Done => words,
         Reply::Refused(_) => old,
         Reply::Rejected(_) => words,
@@ -68,21 +72,21 @@ pub fn tell(turn: Turn, record: &mut [u32; 16]) -> u32
 {
     let session = turn.session;
     let reply = turn.reply;
-    let words = words_of(session);
     let old = *record;
+    let words = words_over(old, session);
     let after = record_after(reply, words, old);
     *record = after;
     number_of(reply)
 }
 
-// Of begin: the record goes to its words after a refusal too.
+// Of begin: all sixteen words are written, after a refusal too.
 pub fn tell_begun(turn: Turn, record: &mut [u32; 16]) -> u32
     ensures { λ r. ⌜ r ≡ numberOf (turn .reply) ⌝ }
     ensures { λ r. ⌜ now («record» .exit) ≡ wordsOf (turn .session) ⌝ }
 {
     let session = turn.session;
     let reply = turn.reply;
-    let words = words_of(session);
+    let words = words_over([0; 16], session);
     *record = words;
     number_of(reply)
 }

@@ -1,12 +1,11 @@
 // A session's record in sixteen words (specification, 10.2).
 use crate::number::bytes_of;
-use crate::number::flag;
 use crate::number::low;
 use crate::number::whole;
 use installer::Session;
 use octets::u32_at;
 ghost use mathlib.Core.Path.{_≡_};
-ghost use Rattle.abi.specs.Session.{sessionOf, wordsOf};
+ghost use Rattle.abi.specs.Session.{sessionOf, wordsOver};
 
 // The record that words hold.
 pub fn session_of(w: [u32; 16]) -> Session
@@ -15,7 +14,7 @@ pub fn session_of(w: [u32; 16]) -> Session
     let first = bytes_of(w[6]);
     let held = bytes_of(w[7]);
     Session {
-        live: w[0] == 1,
+        phase: w[0],
         slot: whole(w[1]),
         file: whole(w[2]),
         pages: whole(w[3]),
@@ -26,14 +25,14 @@ pub fn session_of(w: [u32; 16]) -> Session
     }
 }
 
-// A record as words.
-pub fn words_of(s: Session) -> [u32; 16]
-    ensures { λ r. ⌜ r ≡ wordsOf s ⌝ }
+// A record as words, over what the words were before: the last eight are kept for later, and stay.
+pub fn words_over(old: [u32; 16], s: Session) -> [u32; 16]
+    ensures { λ r. ⌜ r ≡ wordsOver old s ⌝ }
 {
     let first = s.first;
     let held = s.held;
     [
-        flag(s.live),
+        s.phase,
         low(s.slot),
         low(s.file),
         low(s.pages),
@@ -41,13 +40,13 @@ pub fn words_of(s: Session) -> [u32; 16]
         low(s.operations),
         u32_at(&first, 0),
         u32_at(&held, 0),
-        0,
-        0,
-        0,
-        0,
-        0,
-        0,
-        0,
-        0,
+        old[8],
+        old[9],
+        old[10],
+        old[11],
+        old[12],
+        old[13],
+        old[14],
+        old[15],
     ]
 }

@@ -1,64 +1,67 @@
-// Cases of the check: images built by hand, broken in one place or in two, and what is answered, a
-// line for each. Then cases of the writers and of the installer, as tables. What each line must say
-// was made by a program apart, from the paper (01) alone.
-mod ask;
-mod build;
-mod chunks;
-mod code;
-mod digests;
-mod edges;
-mod faults;
-mod firmware;
-mod installer_tables;
+// Cases of the whole library, a line each. The rows stand in the file `stdin`; the program writes each
+// as it stands and the answer behind it. Blank lines and lines that start with `#` are copied. What
+// each line must say is worked out by `tools/cases` from the specification alone.
 mod installs;
-mod order;
-mod parts;
 mod records;
-mod rows;
-mod show;
-mod tables;
-mod vendor;
-mod writer_tables;
-mod writers;
 
-use ask::Asked;
-use ask::ask;
-use ask::file;
-use ask::slot;
-use build::small;
+use case_images::checks;
+use case_images::writers;
+use case_rows::build;
+use case_rows::rows;
+use case_rows::show;
+use libc::STDIN_FILENO;
 
-// Every step, on the small image.
-fn steps(b: &mut [u8], asked: Asked) {
-    ask(b"good", b, asked);
-    vendor::run(b, asked);
-    firmware::run(b, asked);
-    code::run(b, asked);
+// The answer to a row, by the module that its first word stands for.
+fn answer(kind: usize, row: &[u8], image: &[u8], b: &mut [u8]) {
+    match kind {
+        rows::FILE..=rows::TRUST => checks::answer(kind, row, image),
+        rows::ROUNDTRIP..=rows::FIRMWARE => writers::answer(kind, row, image, b),
+        rows::BEGIN..=rows::CROSSED => installs::answer(kind, row, image, b),
+        _ => show::word(rows::UNKNOWN),
+    }
 }
 
-// Cases of the check.
-fn checks(b: &mut [u8]) {
-    small(b);
-    steps(b, file(1540));
-    steps(b, slot(4096));
-    code::tails(b);
-    order::run(b);
-    edges::run(b);
-    chunks::run(b);
-    parts::run(b);
-    digests::run(b);
+fn row(row: &[u8], image: &mut [u8], b: &mut [u8]) {
+    show::text(b":");
+    build::build(row, image);
+    answer(rows::kind(row), row, image, b);
 }
 
-fn run(image: &mut [u8], slot: &mut [u8], spare: &mut [u8]) {
-    checks(image);
-    writer_tables::run(image, slot, spare);
-    installer_tables::run(image, slot, spare);
+// A line: a blank one or one that starts with `#` is a comment.
+fn line(line: &[u8], image: &mut [u8], b: &mut [u8]) {
+    show::text(line);
+    if (line.len() == 0) | (octets::byte_at(line, 0) == b'#') {
+        return;
+    }
+    row(line, image, b);
 }
 
-// The largest image has 2,097,152 bytes, and a slot of a page more is refused. The two longest headers
-// have 66,560 bytes together.
-fn main() {
+// The line that starts at a place, if one does.
+fn line_at(text: &[u8], at: usize, image: &mut [u8], b: &mut [u8]) {
+    if !rows::starts(text, at, b'\n') {
+        return;
+    }
+    line(rows::item(text, at, b'\n'), image, b);
+    show::text(b"\n");
+}
+
+fn lines(text: &[u8], image: &mut [u8], b: &mut [u8]) {
+    let mut i: usize = 0;
+    while i < text.len() {
+        line_at(text, i, image, b);
+        i += 1;
+    }
+}
+
+// The largest image has 2,097,152 bytes, and a slot of a page more is refused.
+fn answers(text: &[u8]) {
     let mut image = [0u8; 2101248];
-    let mut slot = [0u8; 2101248];
-    let mut spare = [0u8; 66560];
-    run(&mut image, &mut slot, &mut spare);
+    let mut b = [0u8; 2101248];
+    lines(text, &mut image, &mut b);
+}
+
+fn main() {
+    let mut text = io::large_buffer();
+    let n = io::read_full(STDIN_FILENO, &mut text);
+    answers(&text[..n]);
 }

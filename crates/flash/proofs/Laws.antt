@@ -2,15 +2,18 @@
 -- Assumes nothing.
 use mathlib.Core.Path.{_≡_, refl, sym, ap, _∙_}
 use mathlib.Core.Bool.{Bool, true, false, _&&_}
-use mathlib.Core.List.{List, [], _∷_, _++_}
-use Prim.Native.Nat.{ℕ, _+_, _≤_, _<_}
+use mathlib.Core.List.{List, [], _∷_, _++_, append-nil}
+use Prim.Native.Nat.{ℕ, _+_, _*_, _≤_, _<_}
 use native.Mathlib.Omega.{arith}
 use lib.Dec.{eqb}
-use lib.ListN.{length, drop, getD, set, length-replicate, replicate-append-replicate, List·getD-eq-default}
-use lib.Seq.{sets-eq}
+use lib.ListN.{length, take, drop, getD, set, length-drop, drop-of-length-le, length-replicate, replicate-append-replicate, List·getD-eq-default}
+use lib.Seq.{sets-eq, drop-drop, take-all}
 use borrow.Author.Fill.{fill-more}
 use borrow.Author.Tests.{le-leb, lt-leb}
 use Rattle.flash.specs.Flash.{erasedBytes, firstPageErased, firstWordStored, startsErased}
+use Rattle.flash.specs.Operation.{wordOf, bytesOf, performed}
+use Rattle.flash.specs.declared.Word.{Word}
+use Rattle.flash.specs.declared.Operation.the-variants.{ErasePage, StoreWord}
 
 pub erased-none : (d : List ℕ) → d ≡ erasedBytes 0 ++ drop 0 d
 unfolding erasedBytes
@@ -79,3 +82,29 @@ pub cut-not-erased : (b : List ℕ) → length b < 4 → startsErased b ≡ fals
 cut-not-erased b h =
     let past : getD b 3 0 ≡ 0 = List·getD-eq-default b 0 (omega arith) in
     rw past (last-false (eqb (getD b 0 0) 255) (eqb (getD b 1 0) 255) (eqb (getD b 2 0) 255))
+
+-- ---- operations that lie in the slot
+
+-- the slot with page p erased
+abbrev pub pageErased : ℕ → List ℕ → List ℕ
+pageErased p slot = take (p * 4096) slot ++ (erasedBytes 4096 ++ drop (p * 4096 + 4096) slot)
+
+-- the slot with the word w stored at an offset
+abbrev pub wordStored : ℕ → List ℕ → List ℕ → List ℕ
+wordStored at w slot = take at slot ++ (w ++ drop (at + 4) slot)
+
+pub performed-page : (p : ℕ) (slot : List ℕ) → p * 4096 + 4096 ≤ length slot → performed (ErasePage p) slot ≡ pageErased p slot
+performed-page p slot h = rw (page-whole (drop (p * 4096) slot) (omega (arith, length-drop (p * 4096) slot)), drop-drop 4096 (p * 4096) slot)
+
+pub performed-word : (at : ℕ) (w slot : List ℕ) → length w ≡ 4 → at + 4 ≤ length slot → performed (StoreWord at (wordOf w)) slot ≡ wordStored at w slot
+performed-word at w slot l h =
+    rw (word-whole (bytesOf (wordOf w)) (drop at slot) (omega (arith, length-drop at slot)), drop-drop 4 at slot)
+    (ap (λ (v : List ℕ). take at slot ++ (v ++ drop (at + 4) slot)) (sym (four-elements w l)))
+
+-- ---- operations past the slot's end change nothing
+
+pub page-past : (p : ℕ) (slot : List ℕ) → length slot ≤ p * 4096 → performed (ErasePage p) slot ≡ slot
+page-past p slot h = rw (take-all (p * 4096) slot h, drop-of-length-le slot h, page-cut [] (omega arith)) (append-nil slot)
+
+pub word-past : (at : ℕ) (w : Word) (slot : List ℕ) → length slot ≤ at → performed (StoreWord at w) slot ≡ slot
+word-past at w slot h = rw (take-all at slot h, drop-of-length-le slot h, word-cut (bytesOf w) [] (omega arith)) (append-nil slot)

@@ -1,24 +1,14 @@
 -- The flash (specification, 9): erased bytes, one page erased, one word stored. A page has 4,096 bytes and a word 4.
 -- Assumes nothing.
-use Prim.Native.Nat.{ℕ, _+_, _*_}
+use Prim.Native.Nat.{ℕ}
 use mathlib.Core.List.{List, _++_}
 use mathlib.Core.Bool.{Bool, _&&_, cond}
-use lib.ListN.{length, take, drop, getD, replicate}
+use lib.ListN.{length, drop, getD, replicate}
 use lib.Dec.{eqb, leb}
 
 -- n erased bytes
 unfoldable pub erasedBytes : ℕ → List ℕ
 erasedBytes n = replicate n 255
-
--- ---- the slot
-
--- the slot with page p erased
-abbrev pub pageErased : ℕ → List ℕ → List ℕ
-pageErased p slot = take (p * 4096) slot ++ (erasedBytes 4096 ++ drop (p * 4096 + 4096) slot)
-
--- the slot with the word w stored at an offset
-abbrev pub wordStored : ℕ → List ℕ → List ℕ → List ℕ
-wordStored at w slot = take at slot ++ (w ++ drop (at + 4) slot)
 
 -- ---- what an operation leaves of the bytes from its place on
 

@@ -1,2 +1,3 @@
 -- What the contracts of flash cite.
 pub mod Flash
+pub mod Operation

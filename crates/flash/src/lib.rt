@@ -1,10 +1,45 @@
-// The two operations of the flash, and the test that a word is erased.
+// The flash: its two operations, an operation as a value, and the test that a word is erased.
 //
-// Each takes the slot's bytes from the place on where it works, and touches the first page or word of
-// them alone. A board that drives real flash puts its own driver here; the installer calls nothing
-// else that writes. Each operation happens wholly or not at all: that is the hardware's promise.
+// `erase_page` and `store_word` take the slot's bytes from the place on where they work, and touch the
+// first page or word of them alone. Each happens wholly or not at all: that is the hardware's promise.
+// An operation as a value is what a board's driver is handed, to make it on the real flash.
 ghost use mathlib.Core.Path.{_≡_};
 ghost use Rattle.flash.specs.Flash.{firstPageErased, firstWordStored, startsErased};
+ghost use Rattle.flash.specs.Operation.{wordOf, bytesOf};
+
+// A word: its four bytes in order. (An enum holds no array.)
+pub struct Word {
+    pub b0: u8,
+    pub b1: u8,
+    pub b2: u8,
+    pub b3: u8,
+}
+
+// What is done to the flash: nothing, a page erased, counted from 0, or a word stored at an offset.
+pub enum Operation {
+    Nothing,
+    ErasePage(usize),
+    StoreWord(usize, Word),
+}
+
+// Four bytes as a word.
+pub fn word_of(b: [u8; 4]) -> Word
+    ensures { λ r. ⌜ r ≡ wordOf b ⌝ }
+{
+    Word {
+        b0: b[0],
+        b1: b[1],
+        b2: b[2],
+        b3: b[3],
+    }
+}
+
+// A word as four bytes.
+pub fn bytes_of(w: Word) -> [u8; 4]
+    ensures { λ r. ⌜ r ≡ bytesOf w ⌝ }
+{
+    [w.b0, w.b1, w.b2, w.b3]
+}
 
 // Erases one page: its 4,096 bytes become 255. Nothing happens to less than a page.
 pub fn erase_page(page: &mut [u8])

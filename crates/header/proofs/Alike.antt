@@ -90,41 +90,42 @@ module _ {R N : ℕ → Bool} {b c : List ℕ} (w : Alike R N b c) where
 
 module _ {R N : ℕ → Bool} {b c : List ℕ} (w : Alike R N b c) (read : ReadByHeaders R N c) where
   pub vendor-len-alike : vendorLen b ≡ vendorLen c
-  vendor-len-alike = u32-alike w 4 (λ i g h. read .fixed i g (omega arith))
+  vendor-len-alike = u32-alike w 4 (read .fixed)
 
-  pub signers-needed-alike : signersNeeded b ≡ signersNeeded c
-  signers-needed-alike = w .at 14 (read .fixed 14 (omega arith) (omega arith))
+  -- where v can be a header's length
+  module _ (least : 512 ≤ vendorLen c) where
+    pub signers-needed-alike : signersNeeded b ≡ signersNeeded c
+    signers-needed-alike = w .at 14 (read .vendor least 14 (omega arith) (omega arith))
 
-  pub key-count-alike : keyCount b ≡ keyCount c
-  key-count-alike = w .at 15 (read .fixed 15 (omega arith) (omega arith))
+    pub key-count-alike : keyCount b ≡ keyCount c
+    key-count-alike = w .at 15 (read .vendor least 15 (omega arith) (omega arith))
 
-  -- where the keys are at most 8
-  pub string-len-alike : keyCount c ≤ 8 → stringLen b ≡ stringLen c
-  string-len-alike most =
-      ap (λ (n : ℕ). getD b (stringLenAt n) 0) key-count-alike
-      ∙ w .at (stringLenAt (keyCount c)) (read .fixed (stringLenAt (keyCount c)) (omega arith) (omega arith))
+    -- where the keys are at most 8
+    pub string-len-alike : keyCount c ≤ 8 → stringLen b ≡ stringLen c
+    string-len-alike most =
+        ap (λ (n : ℕ). getD b (stringLenAt n) 0) key-count-alike
+        ∙ w .at (stringLenAt (keyCount c)) (read .vendor least (stringLenAt (keyCount c)) (omega arith) (omega arith))
 
   -- S3 to S8
   pub vendor-shape-alike : firstFailing (vendorShape b) ≡ firstFailing (vendorShape c)
   unfolding vendorShape shorterThanAnyHeader vendorLenImpossible vendorHeaderCut vendorKeysImpossible stringLeavesNoRoom vendorBytesNotZero
   vendor-shape-alike =
       let ev = vendor-len-alike in
-      let en = key-count-alike in
       same-row _ _ _ (shorter-alike w 512 (read .ends 512 (omega arith))) (λ h3.
       same-row _ _ _ (ap lengthImpossible ev) (λ h4.
-      let v = length-possible (vendorLen c) h4 in
+      let least = length-possible (vendorLen c) h4 .least in
+      let en = key-count-alike least in
       same-row _ _ _ (ap (ltb (length b)) ev ∙ shorter-alike w (vendorLen c) (read .ends (vendorLen c) (omega arith))) (λ h5.
-      same-row _ _ _ (ap₂ keysImpossible signers-needed-alike en) (λ h6.
-      let k = keys-possible (signersNeeded c) (keyCount c) h6 in
-      let es = string-len-alike (k .most) in
+      same-row _ _ _ (ap₂ keysImpossible (signers-needed-alike least) en) (λ h6.
+      let es = string-len-alike least (keys-possible (signersNeeded c) (keyCount c) h6 .most) in
       same-row _ _ _ (ap₂ (λ (v p : ℕ). ltb v (p + 65)) ev (ap₂ pictureStart en es)) (λ h7.
       let p : pictureStart (keyCount c) (stringLen c) + 65 ≤ vendorLen c = ltb-false _ _ h7 in
       same-row _ _ _
       (ap₂
       (λ (x y : List ℕ). not (allAre 0 x && allAre 0 y))
-      (between-alike w 18 32 (read .ends 32 (omega arith)) (λ i g h. read .fixed i (omega arith) (omega arith)))
+      (between-alike w 18 32 (read .ends 32 (omega arith)) (λ i g h. read .vendor least i (omega arith) (omega arith)))
       (ap₂ (λ (n s : ℕ). between (stringEnd n s) (pictureStart n s) b) en es
-      ∙ between-alike w (stringEnd (keyCount c) (stringLen c)) (pictureStart (keyCount c) (stringLen c)) (read .ends _ (omega arith)) (λ i g h. read .vendor (v .least) i (omega arith) (omega arith))))
+      ∙ between-alike w (stringEnd (keyCount c) (stringLen c)) (pictureStart (keyCount c) (stringLen c)) (read .ends _ (omega arith)) (λ i g h. read .vendor least i (omega arith) (omega arith))))
       (λ h8. refl))))))
 
   -- ---- where v can be a header's length
@@ -155,7 +156,7 @@ module _ {R N : ℕ → Bool} {b c : List ℕ} (w : Alike R N b c) (read : ReadB
     pub vendor-policy-alike : (given : Inputs) → firstFailing (vendorPolicy b given) ≡ firstFailing (vendorPolicy c given)
     unfolding vendorPolicy vendorExpired vendorMaskWrong
     vendor-policy-alike given =
-        same-row _ _ _ (ap (λ (e : ℕ). expired e (given .time)) (u32-alike w 8 (λ i g h. read .fixed i (omega arith) (omega arith)))) (λ h9.
+        same-row _ _ _ (ap (λ (e : ℕ). expired e (given .time)) (u32-alike w 8 (λ i g h. read .vendor least i (omega arith) (omega arith)))) (λ h9.
         same-row _ _ _
         (ap
         (maskWrong (given .m) (given .n))
@@ -188,7 +189,7 @@ module _ {R N : ℕ → Bool} {b c : List ℕ} (w : Alike R N b c) (read : ReadB
     firmware-policy-alike given =
         same-row _ _ _ (ap (λ (e : ℕ). expired e (given .time)) (firmware-u32-alike 8 (omega arith))) (λ h18.
         same-row _ _ _
-        (ap₂ (λ (f : ℕ → Bool) (x : ℕ). f x) (ap₂ maskWrong signers-needed-alike key-count-alike) (firmware-byte-alike 959 (omega arith)))
+        (ap₂ (λ (f : ℕ → Bool) (x : ℕ). f x) (ap₂ maskWrong (signers-needed-alike least) (key-count-alike least)) (firmware-byte-alike 959 (omega arith)))
         (λ h19. refl))
 
     -- S21

@@ -3,3 +3,4 @@ pub mod Rows
 pub mod Facts
 pub mod Alike
 pub mod WordApart
+pub mod Told

@@ -15,8 +15,8 @@ pub record Alike (R N : ℕ → Bool) (b c : List ℕ) : Type 0 where
 
 -- R holds what the steps read of the headers of c but for the first word and the two signatures, and N every length up to the image's
 pub record ReadByHeaders (R N : ℕ → Bool) (c : List ℕ) : Type 0 where
-  -- the fixed fields, the keys, the string and what surrounds it, wherever v may lie
-  pub fixed : (i : ℕ) → 4 ≤ i → i < 447 → R i ≡ true
+  -- hdrlen, which is read before v is known to be good
+  pub fixed : (i : ℕ) → 4 ≤ i → i < 8 → R i ≡ true
   -- the vendor header up to its sigmask
   pub vendor : 512 ≤ vendorLen c → (i : ℕ) → 4 ≤ i → i + 64 < vendorLen c → R i ≡ true
   -- the firmware header up to its sigmask

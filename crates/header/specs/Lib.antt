@@ -2,6 +2,7 @@
 pub mod Layout
 pub mod Steps
 pub mod Table
+pub mod Outcome
 pub mod Trust
 pub mod Alike
 pub mod Theorems

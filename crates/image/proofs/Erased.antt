@@ -65,7 +65,7 @@ module _ (file : List ℕ) (given : Inputs) (p : RowsPass (vendorMagicMissing fi
   read =
       let l = whole in
       record {
-        fixed = λ i g h. let v = least in lt-ltb i (length file) (omega arith);
+        fixed = λ i g h. lt-ltb i (length file) (omega arith);
         vendor = λ v i g h. lt-ltb i (length file) (omega arith);
         firmware = λ v i g h. lt-ltb i (length file) (omega arith);
         ends = λ k h. le-leb k (length file) (omega arith);

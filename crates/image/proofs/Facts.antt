@@ -146,12 +146,16 @@ pub sound-file-accepted : (b : List ℕ) (given : Inputs) → firstFailing (head
 sound-file-accepted b given h l e =
     file-accepted b given (record { headers = h; extent = file-extent-passes b l; hashes = hashes-pass b e })
 
--- ---- the code
+-- ---- parts
 
--- it has codelen bytes where the image is held whole, and is all that follows the headers of a file
-pub code-length : (b : List ℕ) → imageLen b ≤ length b → length (codeOf b) ≡ codeLen b
+-- n bytes, where there are so many
+pub length-part : (b : List ℕ) (a e n : ℕ) → e ≡ a + n → e ≤ length b → length (between a e b) ≡ n
 unfolding between
-code-length b h = simp (length-take, length-drop) (omega arith)
+length-part b a e n h g = simp (length-take, length-drop) (omega arith)
+
+-- the code has codelen bytes where the image is held whole, and is all that follows the headers of a file
+pub code-length : (b : List ℕ) → imageLen b ≤ length b → length (codeOf b) ≡ codeLen b
+code-length b h = length-part b (codeStart b) (imageLen b) (codeLen b) refl h
 
 pub code-is-rest : (b : List ℕ) → length b ≡ imageLen b → codeOf b ≡ drop (codeStart b) b
 code-is-rest b e = between-end (codeStart b) (imageLen b) b (omega arith)

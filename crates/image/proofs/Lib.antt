@@ -3,3 +3,4 @@ pub mod Hashes
 pub mod Facts
 pub mod Alike
 pub mod Erased
+pub mod Parts

@@ -1,7 +1,7 @@
 -- What a check answers.
 -- Assumes nothing.
 use Prim.Native.Nat.{ℕ, _+_}
-use mathlib.Core.List.{List, [], _∷_}
+use mathlib.Core.List.{List, [], _∷_, _++_}
 use lib.ListN.{getD}
 use Rattle.header.specs.Layout.{vendorLen, codeLen}
 use Rattle.header.specs.declared.Outcome.{Outcome}
@@ -20,6 +20,15 @@ numberOf (Rejected r) = r .number
 abbrev pub whereOf : Answer → List ℕ
 whereOf (Accepted i) = 0 ∷ 0 ∷ []
 whereOf (Rejected r) = r .part ∷ r .chunk ∷ []
+
+-- a version's four numbers
+abbrev pub versionNumbers : Version → List ℕ
+versionNumbers x = x .major ∷ x .minor ∷ x .patch ∷ x .build ∷ []
+
+-- every value: number, part and chunk; and of an acceptance v, codelen, the version and the fix version
+abbrev pub told : Answer → List ℕ
+told (Accepted i) = 0 ∷ 0 ∷ 0 ∷ i .v ∷ i .codelen ∷ (versionNumbers (i .version) ++ versionNumbers (i .fix))
+told (Rejected r) = r .number ∷ r .part ∷ r .chunk ∷ []
 
 -- major, minor, patch, build
 abbrev pub versionAt : List ℕ → ℕ → Version

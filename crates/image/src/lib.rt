@@ -33,7 +33,7 @@ ghost use lib.ListN.{drop};
 ghost use Rattle.octets.specs.Read.{spanOf};
 ghost use Rattle.header.specs.Table.{firstFailing};
 ghost use Rattle.image.specs.Chunks.{codeOf};
-ghost use Rattle.image.specs.Answer.{versionAt, imageOf, answerOf};
+ghost use Rattle.image.specs.Answer.{versionAt, imageOf, answerOf, told};
 ghost use Rattle.image.specs.Check.{checkRows, checkFile, checkSlot};
 ghost use Rattle.image.specs.Parts.{stringOf, pictureOf, whenAccepted};
 
@@ -112,6 +112,7 @@ fn answer_of(outcome: Outcome, b: &[u8]) -> Answer
 // The check of a file.
 pub fn check_file(b: &[u8], given: Inputs) -> Answer
     ensures { λ r. ⌜ r ≡ checkFile (now (b .entry)) given ⌝ }
+    ensures told { λ r. ⌜ told r ≡ told (checkFile (now (b .entry)) given) ⌝ }
 {
     let outcome = check_rows(vendor_magic_missing(b), bytes_follow(b), b, given);
     answer_of(outcome, b)
@@ -120,6 +121,7 @@ pub fn check_file(b: &[u8], given: Inputs) -> Answer
 // The check of a slot, which is the boot check.
 pub fn check_slot(b: &[u8], given: Inputs) -> Answer
     ensures { λ r. ⌜ r ≡ checkSlot (now (b .entry)) given ⌝ }
+    ensures told { λ r. ⌜ told r ≡ told (checkSlot (now (b .entry)) given) ⌝ }
 {
     let outcome = check_rows(vendor_magic_missing(b), tail_not_erased(b), b, given);
     answer_of(outcome, b)
@@ -128,6 +130,7 @@ pub fn check_slot(b: &[u8], given: Inputs) -> Answer
 // The check of a file whose first word is given apart: of first, and then the bytes from 4 on.
 pub fn check_file_word_apart(first: [u8; 4], b: &[u8], given: Inputs) -> Answer
     ensures { λ r. ⌜ r ≡ checkFile (first ++ drop 4 (now (b .entry))) given ⌝ }
+    ensures told { λ r. ⌜ told r ≡ told (checkFile (first ++ drop 4 (now (b .entry))) given) ⌝ }
 {
     let outcome = check_rows(!starts_with(&first, b"TRZV"), bytes_follow(b), b, given);
     answer_of(outcome, b)

@@ -1,5 +1,5 @@
 // What is shown of the checks, each as the promise of a function with an empty body.
-ghost use Rattle.image.specs.Theorems.{ErasedWordRefused, AcceptedBeforeErased};
+ghost use Rattle.image.specs.Theorems.{ErasedWordRefused, AcceptedBeforeErased, AcceptedParts};
 
 // An erased first word makes the slot check refuse with number 1, for any inputs.
 pub fn erased_word_is_refused()
@@ -9,4 +9,9 @@ pub fn erased_word_is_refused()
 // What the file check accepts, the slot check accepts when erased bytes follow.
 pub fn accepted_before_erased_bytes()
     ensures { λ r. ⌜ AcceptedBeforeErased ⌝ }
+{}
+
+// The parts that are handed back of an accepted image stand where they must, and are as long.
+pub fn accepted_parts()
+    ensures { λ r. ⌜ AcceptedParts ⌝ }
 {}

@@ -5,22 +5,22 @@ use mathlib.Core.List.{List, _++_}
 use mathlib.Core.Bool.{true, false}
 use Prim.Native.Nat.{ℕ, _+_, _≤_}
 use native.Mathlib.Omega.{arith}
-use lib.ListN.{length, take, drop, length-append, length-drop}
+use lib.Dec.{eqb}
+use lib.ListN.{length, take, drop}
 use borrow.Author.Tests.{le-leb, lt-leb, eq-eqb, ne-eqb, eqb-true}
 use Rattle.flash.specs.Flash.{erasedBytes, startsErased}
-use Rattle.flash.proofs.Laws.{length-erased}
-use Rattle.installer.specs.Record.{pagesOf, erasing, filling, full}
+use Rattle.installer.specs.Record.{pagesOf, erasing, filling, full, waiting}
 use Rattle.installer.specs.Calls.{fileIn}
-use Rattle.installer.specs.Run.{Point, allGiven}
-use Rattle.installer.proofs.Facts.{sound-test, over-not-sound}
-use Rattle.installer.proofs.Slot.{holding, holding-first, length-holding, word-erased, holding-file}
+use Rattle.installer.specs.Run.{Point, allGiven, holding}
+use Rattle.installer.proofs.Facts.{sound-test, not-sound, not-waiting}
+use Rattle.installer.proofs.Slot.{length-pages, holding-first, length-holding, word-erased, holding-file}
 use Rattle.installer.proofs.Phases.{Erasing, Filling}
 
 module _ (found : List ℕ) (f : ℕ) where
   -- ---- while pages are erased
 
   pub erasing-length : (p : Point) → Erasing found f p → length (p .now .slot) ≡ length found
-  erasing-length p e = rw (e .slot) (simp (length-append, length-erased, length-drop) (omega (arith, e .fewer)))
+  erasing-length p e = ap length (e .slot) ∙ length-pages (p .past .erases) found (omega (arith, e .fewer))
 
   pub erase-allowed : (p : Point) → Erasing found f p → erasing (p .now .session) (length (p .now .slot)) ≡ true
   erase-allowed p e =
@@ -45,7 +45,7 @@ module _ (found : List ℕ) (f : ℕ) where
   pub filling-length : (p : Point) → Filling found f p → length (p .now .slot) ≡ length found
   filling-length p e =
       ap length (e .slot)
-      ∙ length-holding (p .past .given) (length found) (omega (arith, e .sound .slotLeast)) (omega (arith, e .sound .fileMost, e .sound .taken, e .taken))
+      ∙ length-holding (p .past .given) (length found) (omega (arith, e .sound .lengths .slotLeast)) (omega (arith, e .sound .lengths .fileMost, e .sound .taken, e .taken))
 
   pub erase-too-late : (p : Point) → Filling found f p → erasing (p .now .session) (length (p .now .slot)) ≡ false
   erase-too-late p e =
@@ -81,7 +81,7 @@ module _ (found : List ℕ) (f : ℕ) where
   slot-starts-erased p e = word-erased (p .now .slot) (first-word-erased p e)
 
   pub first-word-given : (p : Point) → Filling found f p → allGiven f (p .past) ≡ true → 4 ≤ length (p .past .given)
-  first-word-given p e a = omega (arith, eqb-true (length (p .past .given)) f a, e .sound .fileLeast, e .file)
+  first-word-given p e a = omega (arith, eqb-true (length (p .past .given)) f a, e .sound .lengths .fileLeast, e .file)
 
   -- what Close checks is the file
   pub file-checked : (p : Point) → Filling found f p → allGiven f (p .past) ≡ true → fileIn (p .now .session) (p .now .slot) ≡ p .past .given
@@ -90,9 +90,24 @@ module _ (found : List ℕ) (f : ℕ) where
       let four : 4 ≤ length (p .past .given) = first-word-given p e a in
       rw (e .file, e .slot, ← all)
       (ap (λ (w : List ℕ). w ++ drop 4 (take (length (p .past .given)) (holding (p .past .given) (length found)))) (e .first four)
-      ∙ holding-file (p .past .given) (length found) four (omega (arith, e .sound .fileWhole, e .file)))
+      ∙ holding-file (p .past .given) (length found) four (omega (arith, e .sound .lengths .fileWhole, e .file)))
 
-  -- ---- once the session is over
+  -- the slot has room for word 0
+  pub first-word-fits : (p : Point) → Filling found f p → 0 + 4 ≤ length (p .now .slot)
+  first-word-fits p e = omega (arith, filling-length p e, e .sound .lengths .slotLeast)
 
-  pub close-refused : (p : Point) → p .now .session .live ≡ false → full (p .now .session) (length (p .now .slot)) ≡ false
-  close-refused p h = rw (over-not-sound (p .now .session) (length (p .now .slot)) h)
+-- ---- where the session is not open
+
+module _ (p : Point) (k : ℕ) (h : p .now .session .phase ≡ k) (other : eqb k 1 ≡ false) where
+  pub erase-refused : erasing (p .now .session) (length (p .now .slot)) ≡ false
+  erase-refused = rw (not-sound (p .now .session) (length (p .now .slot)) k h other)
+
+  pub fill-refused : filling (p .now .session) (length (p .now .slot)) ≡ false
+  fill-refused = rw (not-sound (p .now .session) (length (p .now .slot)) k h other)
+
+  pub close-refused : full (p .now .session) (length (p .now .slot)) ≡ false
+  close-refused = rw (not-sound (p .now .session) (length (p .now .slot)) k h other)
+
+-- Confirm has no turn in a session that is open or over
+pub confirm-refused : (p : Point) (k : ℕ) → p .now .session .phase ≡ k → eqb k 2 ≡ false → waiting (p .now .session) (length (p .now .slot)) ≡ false
+confirm-refused p k h other = not-waiting (p .now .session) (length (p .now .slot)) k h other

@@ -4,26 +4,30 @@ use mathlib.Core.Path.{_≡_, refl}
 use mathlib.Core.Bool.{Bool, true, false, not, _&&_, _||_, and-false, false≢true}
 use mathlib.Core.Logic.{_⊎_, inl, inr, ⊎-elim}
 use mathlib.Core.List.{List, [], _∷_}
-use Prim.Native.Nat.{ℕ, _+_, _%_, _≤_}
+use Prim.Native.Nat.{ℕ, _+_, _/_, _%_, _≤_}
 use lib.Dec.{eqb, leb}
 use borrow.Author.Tests.{eqb-true, leb-true, eq-eqb, le-leb, not-true, not-false}
 use Rattle.octets.specs.Rounding.{multipleOf}
 use Rattle.octets.proofs.Laws.{and-left, and-right}
-use Rattle.installer.specs.Record.{slotLenRight, fileLenRight, pagesOf, wordsStored, sound, full}
+use Rattle.installer.specs.Record.{slotLenRight, fileLenRight, pagesOf, wordsStored, sound, full, waiting}
 use Rattle.installer.specs.declared.Session.{Session}
+
+-- the lengths are those that begin takes
+pub record Lengths (n f : ℕ) : Type 0 where
+  pub slotWhole : n % 4096 ≡ 0
+  pub slotLeast : 4096 ≤ n
+  pub slotMost : n ≤ 2097152
+  pub fileWhole : f % 4 ≡ 0
+  pub fileLeast : 1540 ≤ f
+  pub fileMost : f ≤ n
 
 -- the record is that of an open session, and consistent with a slot of n bytes
 pub record Sound (s : Session) (n : ℕ) : Type 0 where
   pub pages : s .pages ≤ pagesOf n
-  pub live : s .live ≡ true
+  pub phase : s .phase ≡ 1
   pub slot : s .slot ≡ n
-  pub slotWhole : n % 4096 ≡ 0
-  pub slotLeast : 4096 ≤ n
-  pub slotMost : n ≤ 2097152
-  pub fileWhole : s .file % 4 ≡ 0
-  pub fileLeast : 1540 ≤ s .file
-  pub fileMost : s .file ≤ n
-  pub phase : (s .pages ≡ pagesOf n) ⊎ (s .taken ≡ 0)
+  pub lengths : Lengths n (s .file)
+  pub order : (s .pages ≡ pagesOf n) ⊎ (s .taken ≡ 0)
   pub taken : s .taken ≤ s .file
   pub operations : s .operations ≡ s .pages + wordsStored (s .taken)
 
@@ -65,57 +69,83 @@ slotTests n = multipleOf 4096 n ∷ leb 4096 n ∷ leb n 2097152 ∷ []
 abbrev fileTests : ℕ → ℕ → List Bool
 fileTests n f = multipleOf 4 f ∷ leb 1540 f ∷ leb f n ∷ []
 
-abbrev phaseTest : Session → ℕ → Bool
-phaseTest s n = eqb (s .pages) (pagesOf n) || eqb (s .taken) 0
-
-abbrev soundTests : Session → ℕ → List Bool
-soundTests s n =
-    leb (s .pages) (pagesOf n)
-    ∷ s .live
-    ∷ eqb (s .slot) n
-    ∷ slotLenRight n
-    ∷ fileLenRight n (s .file)
-    ∷ phaseTest s n
-    ∷ leb (s .taken) (s .file)
-    ∷ eqb (s .operations) (s .pages + wordsStored (s .taken))
-    ∷ []
-
-pub sound-facts : (s : Session) (n : ℕ) → sound s n ≡ true → Sound s n
-unfolding sound slotLenRight fileLenRight
-sound-facts s n e =
-    let h : Each (soundTests s n) = each (soundTests s n) e in
-    let slot : Each (slotTests n) = each (slotTests n) (h .1 .1 .1 .0) in
-    let file : Each (fileTests n (s .file)) = each (fileTests n (s .file)) (h .1 .1 .1 .1 .0) in
+pub lengths-facts : (n f : ℕ) → slotLenRight n ≡ true → fileLenRight n f ≡ true → Lengths n f
+unfolding slotLenRight fileLenRight
+lengths-facts n f a b =
+    let slot : Each (slotTests n) = each (slotTests n) a in
+    let file : Each (fileTests n f) = each (fileTests n f) b in
     record {
-      pages = leb-true _ _ (h .0);
-      live = h .1 .0;
-      slot = eqb-true _ _ (h .1 .1 .0);
       slotWhole = eqb-true _ _ (slot .0);
       slotLeast = leb-true _ _ (slot .1 .0);
       slotMost = leb-true _ _ (slot .1 .1 .0);
       fileWhole = eqb-true _ _ (file .0);
       fileLeast = leb-true _ _ (file .1 .0);
       fileMost = leb-true _ _ (file .1 .1 .0);
-      phase = ⊎-elim (λ p. inl (eqb-true _ _ p)) (λ p. inr (eqb-true _ _ p)) (or-cases (eqb (s .pages) (pagesOf n)) (eqb (s .taken) 0) (h .1 .1 .1 .1 .1 .0));
+    }
+
+pub lengths-tests : (n f : ℕ) → Lengths n f → (slotLenRight n ≡ true) × (fileLenRight n f ≡ true)
+unfolding slotLenRight fileLenRight
+lengths-tests n f l = (
+  every-of (slotTests n) (eq-eqb _ _ (l .slotWhole), (le-leb _ _ (l .slotLeast), (le-leb _ _ (l .slotMost), tt))),
+  every-of (fileTests n f) (eq-eqb _ _ (l .fileWhole), (le-leb _ _ (l .fileLeast), (le-leb _ _ (l .fileMost), tt))),
+)
+
+abbrev orderTest : Session → ℕ → Bool
+orderTest s n = eqb (s .pages) (pagesOf n) || eqb (s .taken) 0
+
+abbrev soundTests : Session → ℕ → List Bool
+soundTests s n =
+    leb (s .pages) (pagesOf n)
+    ∷ eqb (s .phase) 1
+    ∷ eqb (s .slot) n
+    ∷ slotLenRight n
+    ∷ fileLenRight n (s .file)
+    ∷ orderTest s n
+    ∷ leb (s .taken) (s .file)
+    ∷ eqb (s .operations) (s .pages + wordsStored (s .taken))
+    ∷ []
+
+pub sound-facts : (s : Session) (n : ℕ) → sound s n ≡ true → Sound s n
+unfolding sound
+sound-facts s n e =
+    let h : Each (soundTests s n) = each (soundTests s n) e in
+    record {
+      pages = leb-true _ _ (h .0);
+      phase = eqb-true _ _ (h .1 .0);
+      slot = eqb-true _ _ (h .1 .1 .0);
+      lengths = lengths-facts n (s .file) (h .1 .1 .1 .0) (h .1 .1 .1 .1 .0);
+      order = ⊎-elim (λ p. inl (eqb-true _ _ p)) (λ p. inr (eqb-true _ _ p)) (or-cases (eqb (s .pages) (pagesOf n)) (eqb (s .taken) 0) (h .1 .1 .1 .1 .1 .0));
       taken = leb-true _ _ (h .1 .1 .1 .1 .1 .1 .0);
       operations = eqb-true _ _ (h .1 .1 .1 .1 .1 .1 .1 .0);
     }
 
 pub sound-test : (s : Session) (n : ℕ) → Sound s n → sound s n ≡ true
-unfolding sound slotLenRight fileLenRight
-sound-test s n f =
-    let slot : every (slotTests n) ≡ true = every-of (slotTests n) (eq-eqb _ _ (f .slotWhole), (le-leb _ _ (f .slotLeast), (le-leb _ _ (f .slotMost), tt))) in
-    let file : every (fileTests n (s .file)) ≡ true =
-    every-of (fileTests n (s .file)) (eq-eqb _ _ (f .fileWhole), (le-leb _ _ (f .fileLeast), (le-leb _ _ (f .fileMost), tt))) in
-    let phase : phaseTest s n ≡ true =
-    either (eqb (s .pages) (pagesOf n)) (eqb (s .taken) 0) (⊎-elim (λ p. inl (eq-eqb _ _ p)) (λ p. inr (eq-eqb _ _ p)) (f .phase)) in
-    let last : Each (leb (s .taken) (s .file) ∷ eqb (s .operations) (s .pages + wordsStored (s .taken)) ∷ []) = (le-leb _ _ (f .taken), (eq-eqb _ _ (f .operations), tt)) in
-    every-of (soundTests s n) (le-leb _ _ (f .pages), (f .live, (eq-eqb _ _ (f .slot), (slot, (file, (phase, last))))))
-
--- a session that is over is not sound
-pub over-not-sound : (s : Session) (n : ℕ) → s .live ≡ false → sound s n ≡ false
 unfolding sound
-over-not-sound s n e = rw e (and-false (leb (s .pages) (pagesOf n)))
+sound-test s n f =
+    let l = lengths-tests n (s .file) (f .lengths) in
+    let order : orderTest s n ≡ true =
+    either (eqb (s .pages) (pagesOf n)) (eqb (s .taken) 0) (⊎-elim (λ p. inl (eq-eqb _ _ p)) (λ p. inr (eq-eqb _ _ p)) (f .order)) in
+    let last : Each (leb (s .taken) (s .file) ∷ eqb (s .operations) (s .pages + wordsStored (s .taken)) ∷ []) = (le-leb _ _ (f .taken), (eq-eqb _ _ (f .operations), tt)) in
+    every-of (soundTests s n) (le-leb _ _ (f .pages), (eq-eqb _ _ (f .phase), (eq-eqb _ _ (f .slot), (l .0, (l .1, (order, last))))))
+
+-- ---- the tests of `waiting`
+
+pub waiting-test : (s : Session) (n : ℕ) → s .phase ≡ 2 → s .slot ≡ n → Lengths n (s .file) → s .pages ≡ pagesOf n → s .taken ≡ s .file
+    → s .operations ≡ pagesOf n + s .file / 4 → waiting s n ≡ true
+unfolding waiting
+waiting-test s n phase slot lengths pages taken operations =
+    let l = lengths-tests n (s .file) lengths in
+    every-of (eqb (s .phase) 2 ∷ eqb (s .slot) n ∷ slotLenRight n ∷ fileLenRight n (s .file) ∷ eqb (s .pages) (pagesOf n) ∷ eqb (s .taken) (s .file) ∷ eqb (s .operations) (pagesOf n + s .file / 4) ∷ [])
+    (eq-eqb _ _ phase, (eq-eqb _ _ slot, (l .0, (l .1, (eq-eqb _ _ pages, (eq-eqb _ _ taken, (eq-eqb _ _ operations, tt)))))))
+
+pub not-waiting : (s : Session) (n k : ℕ) → s .phase ≡ k → eqb k 2 ≡ false → waiting s n ≡ false
+unfolding waiting
+not-waiting s n k e h = rw (e, h)
+
+-- a session in another phase is not sound
+pub not-sound : (s : Session) (n k : ℕ) → s .phase ≡ k → eqb k 1 ≡ false → sound s n ≡ false
+unfolding sound
+not-sound s n k e h = rw (e, h) (and-false (leb (s .pages) (pagesOf n)))
 
 -- ---- what a call's test says, which the code makes of the result r of `sound` and a test t of its own
 

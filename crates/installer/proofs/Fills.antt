@@ -11,13 +11,14 @@ use borrow.Author.Tests.{ltb-true, ltb-false, lt-ltb, le-ltb, le-leb, eqb-true, 
 use lib.ListN.{length, take, drop, length-append}
 use lib.Seq.{drop-length, take-all, take-append-le, drop-append-le, length-take-le, paste, take-paste, length-paste}
 use Rattle.flash.specs.Flash.{startsErased}
+use Rattle.flash.proofs.Laws.{performed-word}
 use Rattle.installer.specs.Record.{pagesOf, wordsStored, withBytes}
-use Rattle.installer.specs.Calls.{takes, wordAt, inFirstWord, filled, filledSlot}
-use Rattle.installer.specs.Run.{fillCall, Point, advance, fillAnswer, adds}
+use Rattle.installer.specs.Calls.{takes, wordAt, inFirstWord, filled, turnOf, slotOf}
+use Rattle.installer.specs.Run.{fillCall, Point, advance, fillAnswer, adds, wholeWords, holding}
 use Rattle.installer.specs.declared.Reply.the-variants.{Took}
-use Rattle.installer.proofs.Slot.{wholeWords, holding, holding-opening, holding-kept, holding-free, holding-stored}
+use Rattle.installer.proofs.Slot.{holding-opening, holding-kept, holding-free, holding-stored}
 use Rattle.installer.proofs.Phases.{Filling, Phase, inFilling}
-use Rattle.installer.proofs.Allowed.{fill-allowed}
+use Rattle.installer.proofs.Allowed.{filling-length, fill-allowed}
 
 -- a Fill that takes k bytes of a piece: the bytes given then, the word in the record, and the point
 abbrev more : Point → List ℕ → ℕ → List ℕ
@@ -29,15 +30,15 @@ wordOf p piece k = paste (p .now .session .held) (p .now .session .taken % 4) pi
 abbrev filledPoint : Point → List ℕ → ℕ → Point
 filledPoint p piece k =
     record {
-      past = record { isOpen = true; erases = p .past .erases; given = more p piece k; touched = p .past .touched; done = p .past .done };
-      now = record { session = filled (p .now .session) k (wordOf p piece k) (p .now .slot) .session; slot = filledSlot (p .now .session) k (wordOf p piece k) (p .now .slot) };
+      past = record { isOpen = true; erases = p .past .erases; given = more p piece k; touched = p .past .touched; stored = p .past .stored; waiting = p .past .waiting; done = p .past .done };
+      now = record { session = turnOf (filled (p .now .session) k (wordOf p piece k) (p .now .slot)) .session; slot = slotOf (filled (p .now .session) k (wordOf p piece k) (p .now .slot)) (p .now .slot) };
     }
 
 -- that point where the first word, the slot and the words stored are told
 abbrev tookPoint : Point → List ℕ → ℕ → List ℕ → List ℕ → ℕ → Point
 tookPoint p piece k first slot stored =
     record {
-      past = record { isOpen = true; erases = p .past .erases; given = more p piece k; touched = p .past .touched; done = p .past .done };
+      past = record { isOpen = true; erases = p .past .erases; given = more p piece k; touched = p .past .touched; stored = p .past .stored; waiting = p .past .waiting; done = p .past .done };
       now = record { session = withBytes (p .now .session) k (wordOf p piece k) first stored; slot = slot };
     }
 
@@ -45,7 +46,7 @@ tookPoint p piece k first slot stored =
 place-erased : (found : List ℕ) (f : ℕ) (p : Point) → Filling found f p → (k : ℕ) → 4 ≤ length (p .past .given)
     → length (p .past .given) % 4 + k ≡ 4 → length (p .past .given) + k ≤ f → startsErased (drop (wordAt (p .now .session)) (p .now .slot)) ≡ true
 place-erased found f p e k q h in-file =
-    rw (e .taken, e .slot) (holding-free (p .past .given) (length found) q (omega (arith, e .sound .fileMost, e .file)))
+    rw (e .taken, e .slot) (holding-free (p .past .given) (length found) q (omega (arith, e .sound .lengths .fileMost, e .file)))
 
 -- k bytes are taken, no more than complete the word and than the piece and the file have
 module _ (found : List ℕ) (f : ℕ) (p : Point) (e : Filling found f p) (piece : List ℕ) (k : ℕ)
@@ -93,7 +94,7 @@ module _ (found : List ℕ) (f : ℕ) (p : Point) (e : Filling found f p) (piece
       → Phase found f (tookPoint p piece k first slot stored)
   still-filling first slot stored counted held opened word = inFilling (record {
     isOpen = refl;
-    notDone = e .notDone;
+    notStored = record { stored = e .notStored .stored; waiting = e .notStored .waiting; done = e .notStored .done };
     touched = e .touched;
     enough = e .enough;
     pages = e .pages;
@@ -101,15 +102,10 @@ module _ (found : List ℕ) (f : ℕ) (p : Point) (e : Filling found f p) (piece
     file = e .file;
     sound = record {
       pages = e .sound .pages;
-      live = e .sound .live;
+      phase = e .sound .phase;
       slot = e .sound .slot;
-      slotWhole = e .sound .slotWhole;
-      slotLeast = e .sound .slotLeast;
-      slotMost = e .sound .slotMost;
-      fileWhole = e .sound .fileWhole;
-      fileLeast = e .sound .fileLeast;
-      fileMost = e .sound .fileMost;
-      phase = inl (e .pages);
+      lengths = e .sound .lengths;
+      order = inl (e .pages);
       taken = omega (arith, e .taken, e .file);
       operations = rw (e .taken, counted, e .sound .operations, e .taken) (omega arith);
     };
@@ -150,8 +146,9 @@ module _ (found : List ℕ) (f : ℕ) (p : Point) (e : Filling found f p) (piece
       )
       (still-filling (p .now .session .first) _ 1
       (omega arith)
-      (rw (word-complete h, e .taken, e .slot, drop-append-le (wholeWords (p .past .given)) (p .past .given) (take k piece) (omega arith))
-      (holding-stored (p .past .given) (take k piece) (length found) q (omega (arith, length-given)) (omega (arith, e .sound .fileMost, e .file))))
+      (performed-word (wordAt (p .now .session)) (wordOf p piece k) (p .now .slot) word-length (omega (arith, filling-length found f p e, e .taken, e .file, e .sound .lengths .fileMost))
+      ∙ rw (word-complete h, e .taken, e .slot, drop-append-le (wholeWords (p .past .given)) (p .past .given) (take k piece) (omega arith))
+      (holding-stored (p .past .given) (take k piece) (length found) q (omega (arith, length-given)) (omega (arith, e .sound .lengths .fileMost, e .file))))
       (λ j. first-kept q)
       (none-in-progress h))
 
@@ -178,10 +175,10 @@ module _ (found : List ℕ) (f : ℕ) where
 
   -- what it answers: by the rule, with none refused
   answers-took : (p : Point) → Filling found f p → (k : ℕ) (w : List ℕ) → length (p .past .given) + k ≤ f
-      → filled (p .now .session) k w (p .now .slot) .reply ≡ Took k
+      → turnOf (filled (p .now .session) k w (p .now .slot)) .reply ≡ Took k
   answers-took p e k w in-file = go (eqb (p .now .session .taken % 4 + k) 4) refl (inFirstWord (p .now .session)) refl
     where
-      go : (a : Bool) → eqb (p .now .session .taken % 4 + k) 4 ≡ a → (b : Bool) → inFirstWord (p .now .session) ≡ b → filled (p .now .session) k w (p .now .slot) .reply ≡ Took k
+      go : (a : Bool) → eqb (p .now .session .taken % 4 + k) 4 ≡ a → (b : Bool) → inFirstWord (p .now .session) ≡ b → turnOf (filled (p .now .session) k w (p .now .slot)) .reply ≡ Took k
       go false x b y = rw (fill-allowed found f p e, x) refl
       go true x true y = rw (fill-allowed found f p e, x, y) refl
       go true x false y =

@@ -1,14 +1,17 @@
 -- The slot while pages are erased and while a file is filled in: which bytes it holds when the bytes g were given.
 -- Assumes nothing.
-use mathlib.Core.Path.{_≡_, sym, ap, _∙_}
-use mathlib.Core.List.{List, [], _++_, append-assoc}
+use mathlib.Core.Path.{_≡_, refl, sym, ap, _∙_}
+use mathlib.Core.List.{List, [], _∷_, _++_, append-assoc, append-nil}
 use mathlib.Core.Bool.{true}
 use Prim.Native.Nat.{ℕ, _+_, _-_, _*_, _/_, _%_, _≤_, max}
 use native.Mathlib.Omega.{arith}
 use lib.ListN.{length, take, drop, length-append, length-take, length-drop, take-append-drop, drop-of-length-le}
-use lib.Seq.{take-at, drop-at, drop-drop, take-all, take-append-le, drop-append-le, drop-append-add}
-use Rattle.flash.specs.Flash.{erasedBytes, startsErased, pageErased, wordStored}
-use Rattle.flash.proofs.Laws.{length-erased, erased-append, erased-word}
+use lib.Seq.{take-at, drop-at, drop-drop, drop-length, take-all, take-append-le, drop-append-le, drop-append-add}
+use borrow.Author.Tests.{eq-eqb}
+use Rattle.octets.specs.Read.{startsWith}
+use Rattle.flash.specs.Flash.{erasedBytes, startsErased}
+use Rattle.flash.proofs.Laws.{length-erased, erased-none, erased-append, erased-word, pageErased, wordStored}
+use Rattle.installer.specs.Run.{pagesErased, wholeWords, holding}
 
 pub erased-split : (k n : ℕ) → k ≤ n → erasedBytes n ≡ erasedBytes k ++ erasedBytes (n - k)
 erased-split k n h = let e : n ≡ k + (n - k) = omega arith in ap erasedBytes e ∙ sym (erased-append k (n - k))
@@ -26,9 +29,26 @@ erased-starts n h = ap startsErased (erased-split 4 n h) ∙ erased-word (erased
 drop-past : (xs ys : List ℕ) (a m : ℕ) → length xs ≡ a → drop (a + m) (xs ++ ys) ≡ drop m ys
 drop-past xs ys a m e = rw (← e) (drop-append-add xs ys m)
 
--- where the first p pages are erased, page p makes them p + 1
-pub page-more : (p : ℕ) (found : List ℕ)
-    → pageErased p (erasedBytes (p * 4096) ++ drop (p * 4096) found) ≡ erasedBytes ((p + 1) * 4096) ++ drop ((p + 1) * 4096) found
+-- ---- pages erased
+
+pub no-page : (found : List ℕ) → pagesErased 0 found ≡ found
+unfolding pagesErased
+no-page found = sym (erased-none found)
+
+pub length-pages : (p : ℕ) (found : List ℕ) → p * 4096 ≤ length found → length (pagesErased p found) ≡ length found
+unfolding pagesErased
+length-pages p found h = simp (length-append, length-erased, length-drop) (omega arith)
+
+-- the first word is erased with the first page
+pub pages-first : (p : ℕ) (found : List ℕ) → 4 ≤ p * 4096 → take 4 (pagesErased p found) ≡ erasedBytes 4
+unfolding pagesErased
+pages-first p found h =
+    rw (erased-split 4 (p * 4096) h, append-assoc (erasedBytes 4) (erasedBytes (p * 4096 - 4)) (drop (p * 4096) found))
+    (take-at (erasedBytes 4) (erasedBytes (p * 4096 - 4) ++ drop (p * 4096) found) 4 (length-erased 4))
+
+-- page p makes them p + 1
+pub page-more : (p : ℕ) (found : List ℕ) → pageErased p (pagesErased p found) ≡ pagesErased (p + 1) found
+unfolding pagesErased
 page-more p found =
     let e : (p + 1) * 4096 ≡ p * 4096 + 4096 = omega arith in
     rw (
@@ -40,13 +60,12 @@ page-more p found =
     )
     (sym (append-assoc (erasedBytes (p * 4096)) (erasedBytes 4096) (drop (p * 4096 + 4096) found)))
 
--- the bytes of whole words among the bytes g
-abbrev pub wholeWords : List ℕ → ℕ
-wholeWords g = length g / 4 * 4
+-- with the last page every byte is erased
+pub pages-all : (p : ℕ) (found : List ℕ) → p * 4096 ≡ length found → pagesErased p found ≡ erasedBytes (length found)
+unfolding pagesErased
+pages-all p found h = rw (h, drop-length found) (append-nil (erasedBytes (length found)))
 
--- word 0 erased, the other whole words of g at their places, and erased bytes up to n
-pub holding : List ℕ → ℕ → List ℕ
-holding g n = erasedBytes 4 ++ (drop 4 (take (wholeWords g) g) ++ erasedBytes (n - max 4 (wholeWords g)))
+-- ---- words stored
 
 pub holding-first : (g : List ℕ) (n : ℕ) → take 4 (holding g n) ≡ erasedBytes 4
 unfolding holding
@@ -142,3 +161,15 @@ module _ (g : List ℕ) (n : ℕ) (h : 4 ≤ length g) (m : length g % 4 ≡ 0) 
       let e : max 4 (wholeWords g) ≡ length g = omega arith in
       rw (drop-at (erasedBytes 4) (drop 4 (take (wholeWords g) g) ++ erasedBytes (n - max 4 (wholeWords g))) 4 (length-erased 4), all-words, e)
       (sym (append-assoc (take 4 g) (drop 4 g) (erasedBytes (n - length g))) ∙ ap (λ (v : List ℕ). v ++ erasedBytes (n - length g)) (take-append-drop 4 g))
+
+-- ---- a slot starts with the first word of what it holds
+
+starts-same : (w rest : List ℕ) → startsWith w (w ++ rest) ≡ true
+starts-same [] rest = refl
+starts-same (x ∷ w) rest = rw (eq-eqb x x refl) (starts-same w rest)
+
+pub starts-own : (g rest : List ℕ) → 4 ≤ length g → startsWith (take 4 g) (g ++ rest) ≡ true
+starts-own g rest h =
+    ap (λ (l : List ℕ). startsWith (take 4 g) (l ++ rest)) (sym (take-append-drop 4 g))
+    ∙ ap (startsWith (take 4 g)) (append-assoc (take 4 g) (drop 4 g) rest)
+    ∙ starts-same (take 4 g) (drop 4 g ++ rest)

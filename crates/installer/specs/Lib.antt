@@ -1,5 +1,6 @@
 -- What the contracts of installer cite.
-pub mod Reply
 pub mod Record
+pub mod Reply
 pub mod Calls
+pub mod Operations
 pub mod Run

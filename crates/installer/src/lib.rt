@@ -1,36 +1,49 @@
 // The installer: begin, erase, fill, ask and close, over the one slot of flash.
 //
-// A session's record goes in by value and comes back. Any record may come in: one whose numbers no
-// session reaches is refused with 19. Each call makes at most one operation of the flash. If that
-// happens wholly or not at all, a power cut has the effect of one between two calls. The file's first
-// word stays in the record until close stores it as the last operation of all: until then the slot
-// starts erased, and the boot check refuses it.
+// A session's record goes in by value and comes back. Any record may come in: one that no session
+// reaches is refused with 19. Each call makes at most one operation of the flash. If that happens
+// wholly or not at all, a power cut has the effect of one between two calls. The file's first word
+// stays in the record until it is stored as the last operation of all: until then the slot starts
+// erased, and the boot check refuses it.
+//
+// The calls here write a slot in memory. Those of `plans` read the slot and hand the operation back.
+pub mod plans;
+pub mod record;
 pub mod theorems;
 
+use flash::Operation;
+use flash::Word;
+use flash::bytes_of;
 use flash::erase_page;
-use flash::starts_erased;
 use flash::store_word;
 use header::Inputs;
-use header::Outcome;
 use header::Refusal;
 use header::table::refuse;
-use image::Answer;
-use image::check_file_word_apart;
+use plans::plan_close;
+use plans::plan_erase;
+use plans::plan_fill;
+use record::file_len_right;
+use record::full;
+use record::new_record;
+use record::slot_len_right;
+use record::with_phase;
 use signing::Digest;
 use signing::firmware_digest_word_apart;
 use signing::vendor_digest_word_apart;
 ghost use mathlib.Core.Path.{_≡_};
-ghost use Prim.Native.Nat.{_+_, _≤_, _<_};
 ghost use lib.ListN.{length};
-ghost use lib.Seq.{paste};
-ghost use Rattle.installer.specs.Record.{slotLenRight, fileLenRight, wordsStored, sound, full, newRecord, withBytes};
-ghost use Rattle.installer.specs.Calls.{refused, beginOf, eraseOf, eraseSlot, takes, fillOf, fillSlot, noDigest, askOf, closed, closeOf, closeSlot};
+ghost use Rattle.flash.specs.Operation.{performed, bytesOf};
+ghost use Rattle.flash.specs.Flash.{firstPageErased, firstWordStored};
+ghost use Rattle.header.specs.Outcome as outcome;
+ghost use Rattle.installer.specs.Reply.{told};
+ghost use Rattle.installer.specs.Calls.{beginOf, eraseOf, eraseSlot, fillOf, fillSlot, noDigest, askOf, turnOf, closeOf, closeSlot};
 
-// A session's record: whether the session is open, the lengths of the slot and of the file as told
-// at begin, pages erased, bytes taken, operations made since begin, the file's first word, and the
-// word in progress.
+// A session's record: its phase, the lengths of the slot and of the file as told at begin, pages
+// erased, bytes taken, operations made since begin, the file's first word, and the word in progress.
+// The phase is 0 if the session is over, 1 if it is open, and 2 if a close has accepted the file and
+// word 0 is to be confirmed. Any other number is no phase.
 pub struct Session {
-    pub live: bool,
+    pub phase: u32,
     pub slot: usize,
     pub file: usize,
     pub pages: usize,
@@ -40,12 +53,14 @@ pub struct Session {
     pub held: [u8; 4],
 }
 
-// What a call answers. Refused is the installer's own refusal, by its number, and Rejected is one of
-// the check, which close passes on.
+// What a call answers. Accepted is a close over a slot that is only read: the file is accepted, and
+// word 0 is to be stored. Refused is the installer's own refusal, by its number, and Rejected is one
+// of the check, which a close passes on.
 pub enum Reply {
     Begun,
     Erased,
     Took(usize),
+    Accepted,
     Done,
     Refused(u32),
     Rejected(Refusal),
@@ -57,192 +72,117 @@ pub struct Turn {
     pub reply: Reply,
 }
 
+// The record and the answer that a call gives, and the operation that the caller is to make.
+pub struct Plan {
+    pub session: Session,
+    pub reply: Reply,
+    pub operation: Operation,
+}
+
 // What ask answers: both digest questions over the full file.
 pub struct Asked {
     pub vendor: Digest,
     pub firmware: Digest,
 }
 
-// Whether a slot's length is one that begin takes.
-fn slot_len_right(n: usize) -> bool
-    ensures { λ r. ⌜ r ≡ slotLenRight n ⌝ }
-{
-    (n % 4096 == 0) & ((4096 <= n) & (n <= 2097152))
-}
-
-// Whether a file's length is one that begin takes for a slot of n bytes.
-fn file_len_right(n: usize, f: usize) -> bool
-    ensures { λ r. ⌜ r ≡ fileLenRight n f ⌝ }
-{
-    (f % 4 == 0) & ((1540 <= f) & (f <= n))
-}
-
-fn new_record(live: bool, n: usize, f: usize) -> Session
-    ensures { λ r. ⌜ r ≡ newRecord live n f ⌝ }
-{
-    Session {
-        live,
-        slot: n,
-        file: f,
-        pages: 0,
-        taken: 0,
-        operations: 0,
-        first: [0; 4],
-        held: [0; 4],
-    }
-}
-
-fn refused(s: Session, number: u32) -> Turn
-    ensures { λ r. ⌜ r ≡ refused s number ⌝ }
-{
-    Turn {
-        session: s,
-        reply: Reply::Refused(number),
-    }
-}
-
 // Begins a session on the slot, told the file's length. It touches no flash. 22 if the slot's length
 // is wrong, then 18 if the file's is.
 pub fn begin(slot: &[u8], file: usize) -> Turn
     ensures { λ r. ⌜ r ≡ beginOf (length (now (slot .entry))) file ⌝ }
+    ensures told { λ r. ⌜ told (r .reply) ≡ told (beginOf (length (now (slot .entry))) file .reply) ⌝ }
 {
     let n = slot.len();
     if !slot_len_right(n) {
-        return refused(new_record(false, 0, 0), 22);
+        return Turn {
+            session: new_record(0, 0, 0),
+            reply: Reply::Refused(22),
+        };
     }
     if !file_len_right(n, file) {
-        return refused(new_record(false, 0, 0), 18);
+        return Turn {
+            session: new_record(0, 0, 0),
+            reply: Reply::Refused(18),
+        };
     }
     Turn {
-        session: new_record(true, n, file),
+        session: new_record(1, n, file),
         reply: Reply::Begun,
     }
 }
 
-// The words stored of the first t bytes: word 0 is not among them.
-fn words_stored(t: usize) -> usize
-    ensures { λ r. ⌜ r ≡ wordsStored t ⌝ }
+// Erases a page of the slot.
+fn erase_at(page: usize, slot: &mut [u8])
+    ensures { λ r. ⌜ now (slot .exit) ≡ performed (Operation.ErasePage page) (now (slot .entry)) ⌝ }
 {
-    if t < 4 { 0 } else { t / 4 - 1 }
-}
-
-// Whether the record is that of an open session, and consistent with a slot of n bytes.
-fn sound(s: Session, n: usize) -> bool
-    ensures { λ r. ⌜ r ≡ sound s n ⌝ }
-{
-    let all = n / 4096;
-    if s.pages > all {
-        return false;
+    if slot.len() / 4096 < page {
+        return;
     }
-    s.live
-        & ((s.slot == n)
-            & (slot_len_right(n)
-                & (file_len_right(n, s.file)
-                    & (((s.pages == all) | (s.taken == 0))
-                        & ((s.taken <= s.file)
-                            & (s.operations == s.pages + words_stored(s.taken)))))))
+    let at = page * 4096;
+    erase_page(&mut slot[at..]);
 }
 
-// Whether all pages are erased and all bytes taken.
-pub fn full(s: Session, n: usize) -> bool
-    ensures { λ r. ⌜ r ≡ full s n ⌝ }
+// Stores a word at its place in the slot.
+fn store_at(at: usize, w: Word, slot: &mut [u8])
+    ensures { λ r. ⌜ now (slot .exit) ≡ performed (Operation.StoreWord at w) (now (slot .entry)) ⌝ }
 {
-    sound(s, n) & ((s.pages == n / 4096) & (s.taken == s.file))
+    if slot.len() < at {
+        return;
+    }
+    store_word(&mut slot[at..], bytes_of(w));
+}
+
+// Makes an operation on a slot in memory.
+fn perform(operation: Operation, slot: &mut [u8])
+    ensures { λ r. ⌜ now (slot .exit) ≡ performed operation (now (slot .entry)) ⌝ }
+{
+    match operation {
+        Operation::Nothing => {}
+        Operation::ErasePage(page) => erase_at(page, slot),
+        Operation::StoreWord(at, w) => store_at(at, w, slot),
+    }
+}
+
+// What is left of a plan whose operation was made: word 0 stands then, so that Accepted is Done.
+fn turn_of(p: Plan) -> Turn
+    ensures { λ r. ⌜ r ≡ turnOf p ⌝ }
+{
+    let session = p.session;
+    let reply = p.reply;
+    match reply {
+        Reply::Accepted => Turn {
+            session: with_phase(session, 0, session.operations),
+            reply: Reply::Done,
+        },
+        Reply::Begun => Turn { session, reply },
+        Reply::Erased => Turn { session, reply },
+        Reply::Took(_) => Turn { session, reply },
+        Reply::Done => Turn { session, reply },
+        Reply::Refused(_) => Turn { session, reply },
+        Reply::Rejected(_) => Turn { session, reply },
+    }
 }
 
 // Erases the next page.
 pub fn erase(s: Session, slot: &mut [u8]) -> Turn
     ensures { λ r. ⌜ (r ≡ eraseOf s (now (slot .entry))) × (now (slot .exit) ≡ eraseSlot s (now (slot .entry))) ⌝ }
+    ensures told { λ r. ⌜ told (r .reply) ≡ told (eraseOf s (now (slot .entry)) .reply) ⌝ }
 {
-    let n = slot.len();
-    let may = sound(s, n) & (s.pages < n / 4096);
-    if !may {
-        return refused(s, 19);
-    }
-    let at = s.pages * 4096;
-    erase_page(&mut slot[at..]);
-    let mut t = s;
-    t.pages = s.pages + 1;
-    t.operations = s.operations + 1;
-    Turn {
-        session: t,
-        reply: Reply::Erased,
-    }
-}
-
-// How many bytes of a piece of len bytes a fill takes.
-fn takes(taken: usize, file: usize, len: usize) -> usize
-    requires { ⌜ taken ≤ file ⌝ }
-    ensures { λ r. ⌜ r ≡ takes taken file len ⌝ }
-{
-    let mut k = 4 - taken % 4;
-    if len < k {
-        k = len;
-    }
-    if file - taken < k {
-        k = file - taken;
-    }
-    k
-}
-
-// The word with the piece's first k bytes in it from got on.
-fn join(held: [u8; 4], got: usize, piece: &[u8], k: usize) -> [u8; 4]
-    requires { ⌜ (got + k ≤ 4) × (k ≤ length (now piece)) ⌝ }
-    ensures { λ r. ⌜ r ≡ paste held got (now (piece .entry)) k ⌝ }
-{
-    let mut w = held;
-    let mut i: usize = 0;
-    while i < k {
-        w[got + i] = piece[i];
-        i += 1;
-    }
-    w
-}
-
-// k bytes are taken: the word in progress, the first word, and the words that were stored.
-fn took(s: Session, k: usize, held: [u8; 4], first: [u8; 4], stored: usize) -> Turn
-    requires { ⌜ (s .taken + k < 4294967296) × (s .operations + stored < 4294967296) ⌝ }
-    ensures { λ r. ⌜ r ≡ record { session = withBytes s k held first stored; reply = Reply.Took k } ⌝ }
-{
-    let mut t = s;
-    t.taken = s.taken + k;
-    t.operations = s.operations + stored;
-    t.first = first;
-    t.held = held;
-    Turn {
-        session: t,
-        reply: Reply::Took(k),
-    }
+    let p = plan_erase(s, slot);
+    let operation = p.operation;
+    perform(operation, slot);
+    turn_of(p)
 }
 
 // Takes bytes of the piece, up to the end of the current word, and says how many. A completed word is
 // stored at its place, except word 0, which the record keeps. 23 if that place is not erased.
 pub fn fill(s: Session, piece: &[u8], slot: &mut [u8]) -> Turn
     ensures { λ r. ⌜ (r ≡ fillOf s (now (piece .entry)) (now (slot .entry))) × (now (slot .exit) ≡ fillSlot s (now (piece .entry)) (now (slot .entry))) ⌝ }
+    ensures told { λ r. ⌜ told (r .reply) ≡ told (fillOf s (now (piece .entry)) (now (slot .entry)) .reply) ⌝ }
 {
-    let n = slot.len();
-    let may = sound(s, n) & (s.pages == n / 4096);
-    if !may {
-        return refused(s, 19);
-    }
-    let taken = s.taken;
-    let first = s.first;
-    let held = s.held;
-    let got = taken % 4;
-    let k = takes(taken, s.file, piece.len());
-    let w = join(held, got, piece, k);
-    if got + k != 4 {
-        return took(s, k, w, first, 0);
-    }
-    if taken < 4 {
-        return took(s, k, w, w, 0);
-    }
-    let at = taken / 4 * 4;
-    if !starts_erased(&slot[at..]) {
-        return refused(s, 23);
-    }
-    store_word(&mut slot[at..], w);
-    took(s, k, w, first, 1)
+    let p = plan_fill(s, piece, slot);
+    let operation = p.operation;
+    perform(operation, slot);
+    turn_of(p)
 }
 
 fn no_digest() -> Digest
@@ -259,6 +199,8 @@ fn no_digest() -> Digest
 // bytes are taken.
 pub fn ask(s: Session, slot: &[u8]) -> Asked
     ensures { λ r. ⌜ r ≡ askOf s (now (slot .entry)) ⌝ }
+    ensures vendor { λ r. ⌜ outcome.told (r .vendor .outcome) ≡ outcome.told (askOf s (now (slot .entry)) .vendor .outcome) ⌝ }
+    ensures firmware { λ r. ⌜ outcome.told (r .firmware .outcome) ≡ outcome.told (askOf s (now (slot .entry)) .firmware .outcome) ⌝ }
 {
     let n = slot.len();
     if !full(s, n) {
@@ -273,48 +215,15 @@ pub fn ask(s: Session, slot: &[u8]) -> Asked
     Asked { vendor, firmware }
 }
 
-// The session is over, by the check's answer.
-fn closed(s: Session, answer: Answer) -> Turn
-    requires { ⌜ s .operations < 4294967296 ⌝ }
-    ensures { λ r. ⌜ r ≡ closed s answer ⌝ }
-{
-    let mut t = s;
-    t.live = false;
-    match answer {
-        Answer::Rejected(r) => Turn {
-            session: t,
-            reply: Reply::Rejected(r),
-        },
-        Answer::Accepted(_) => {
-            t.operations = s.operations + 1;
-            Turn {
-                session: t,
-                reply: Reply::Done,
-            }
-        }
-    }
-}
-
 // Checks the file, its first word from the record, and stores that word if the check accepts: Done.
 // A refusal of the check is the answer, and the slot stays. Either way the session is over. 19
 // before the last byte, then 23 if the first word is not erased.
 pub fn close(s: Session, given: Inputs, slot: &mut [u8]) -> Turn
     ensures { λ r. ⌜ (r ≡ closeOf s given (now (slot .entry))) × (now (slot .exit) ≡ closeSlot s given (now (slot .entry))) ⌝ }
+    ensures told { λ r. ⌜ told (r .reply) ≡ told (closeOf s given (now (slot .entry)) .reply) ⌝ }
 {
-    let n = slot.len();
-    if !full(s, n) {
-        return refused(s, 19);
-    }
-    let start = 0;
-    if !starts_erased(&slot[start..]) {
-        return refused(s, 23);
-    }
-    let file = s.file;
-    let first = s.first;
-    let answer = check_file_word_apart(first, &slot[..file], given);
-    let Answer::Accepted(_) = answer else {
-        return closed(s, answer);
-    };
-    store_word(&mut slot[start..], first);
-    closed(s, answer)
+    let p = plan_close(s, given, slot);
+    let operation = p.operation;
+    perform(operation, slot);
+    turn_of(p)
 }

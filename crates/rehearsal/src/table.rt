@@ -142,6 +142,7 @@ fn answered(room: usize, reply: Reply) -> usize {
         Reply::Begun => text(room, b"Begun"),
         Reply::Erased => text(room, b"Erased"),
         Reply::Took(count) => labelled(room, b"Took ", count),
+        Reply::Accepted => text(room, b"Accepted"),
         Reply::Done => text(room, b"Done"),
         Reply::Refused(n) => labelled(room, b"a refusal with ", n as usize),
         Reply::Rejected(r) => labelled(room, b"the check's refusal with ", r.number as usize),

@@ -12,12 +12,15 @@ use Rattle.blake2s.specs.Parts.{zeroTailed}
 use Rattle.header.specs.Layout.{TRZV, vendorLen, maskAt}
 use Rattle.header.specs.Steps.{vendorMagicMissing}
 use Rattle.header.specs.Table.{Row, firstFailing, vendorShape, firmwareShape}
+use Rattle.header.specs.Outcome.{told}
 use Rattle.header.specs.declared.Outcome.{Outcome}
 use Rattle.header.specs.declared.Outcome.the-variants.{Pass, Refused}
 use Rattle.header.proofs.Rows.{same-row, same-stage, stage-first, pass-tail}
 use Rattle.header.proofs.Facts.{vendor-shaped}
 use Rattle.header.proofs.Alike.{vendor-len-alike, between-alike}
+use Rattle.header.proofs.Told.{told-too}
 use Rattle.signing.specs.Digests.{vendorRows, firmwareRows, signedVendor, signedFirmware, answered, vendorDigest, firmwareDigest}
+use Rattle.signing.specs.declared.Digest.{Digest}
 use Rattle.header.proofs.WordApart.{read-after-word, shaped-word-alike, word-magic, word-vendor-shape, word-firmware-shape}
 
 -- ---- a call's return, whichever its rows are
@@ -27,6 +30,10 @@ pub answers : {x m : Bool} {o p : Outcome} {d : List ℕ} (rows : Bool → List 
     → record { outcome = p; digest = d } ≡ answered p e
     → record { outcome = o; digest = d } ≡ answered (firstFailing (rows m b)) e
 answers rows b e magic first found h = rw (← magic, ← first, found) h
+
+-- a call that promises its reply promises what the outcome tells
+pub tells : {x y : Digest} → x ≡ y → (x ≡ y) × (told (x .outcome) ≡ told (y .outcome))
+tells e = told-too (λ (x : Digest). told (x .outcome)) e
 
 -- ---- the word given apart
 

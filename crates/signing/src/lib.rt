@@ -24,6 +24,7 @@ ghost use Rattle.blake2s.specs.Parts.{zeroTailed};
 ghost use Rattle.octets.specs.Read.{between};
 ghost use Rattle.header.specs.Layout.{vendorLen, maskAt};
 ghost use Rattle.header.specs.Table.{firstFailing};
+ghost use Rattle.header.specs.Outcome.{told};
 ghost use Rattle.signing.specs.Digests.{vendorRows, firmwareRows, signedVendor, signedFirmware, answered, vendorDigest, firmwareDigest};
 
 // Pass and the digest, or the refusal and zeros.
@@ -76,6 +77,7 @@ fn firmware_header_digest(b: &[u8]) -> [u8; 32]
 // The digest to be signed of the vendor header.
 pub fn vendor_digest(b: &[u8]) -> Digest
     ensures { λ r. ⌜ r ≡ vendorDigest (now (b .entry)) ⌝ }
+    ensures told { λ r. ⌜ told (r .outcome) ≡ told (vendorDigest (now (b .entry)) .outcome) ⌝ }
 {
     let outcome = vendor_rows(vendor_magic_missing(b), b);
     match outcome {
@@ -110,6 +112,7 @@ fn firmware_answer(magic_missing: bool, b: &[u8]) -> Digest
 // The digest to be signed of the firmware header.
 pub fn firmware_digest(b: &[u8]) -> Digest
     ensures { λ r. ⌜ r ≡ firmwareDigest (now (b .entry)) ⌝ }
+    ensures told { λ r. ⌜ told (r .outcome) ≡ told (firmwareDigest (now (b .entry)) .outcome) ⌝ }
 {
     firmware_answer(vendor_magic_missing(b), b)
 }
@@ -117,6 +120,7 @@ pub fn firmware_digest(b: &[u8]) -> Digest
 // The vendor header's, where the first word is given apart: of first, and then the bytes from 4 on.
 pub fn vendor_digest_word_apart(first: [u8; 4], b: &[u8]) -> Digest
     ensures { λ r. ⌜ r ≡ vendorDigest (first ++ drop 4 (now (b .entry))) ⌝ }
+    ensures told { λ r. ⌜ told (r .outcome) ≡ told (vendorDigest (first ++ drop 4 (now (b .entry))) .outcome) ⌝ }
 {
     let outcome = vendor_rows(!starts_with(&first, b"TRZV"), b);
     match outcome {
@@ -134,6 +138,7 @@ pub fn vendor_digest_word_apart(first: [u8; 4], b: &[u8]) -> Digest
 // The firmware header's, where the first word is given apart.
 pub fn firmware_digest_word_apart(first: [u8; 4], b: &[u8]) -> Digest
     ensures { λ r. ⌜ r ≡ firmwareDigest (first ++ drop 4 (now (b .entry))) ⌝ }
+    ensures told { λ r. ⌜ told (r .outcome) ≡ told (firmwareDigest (first ++ drop 4 (now (b .entry))) .outcome) ⌝ }
 {
     firmware_answer(!starts_with(&first, b"TRZV"), b)
 }

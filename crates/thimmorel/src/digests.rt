@@ -3,8 +3,9 @@ use abi::digest::tell;
 use signing::firmware_digest;
 use signing::vendor_digest;
 ghost use mathlib.Core.Path.{_≡_};
+ghost use Rattle.header.specs.Outcome.{numberOf, whereOf};
 ghost use Rattle.signing.specs.Digests.{vendorDigest, firmwareDigest};
-ghost use Rattle.abi.specs.Words.{outcomeNumber, outcomeWhere, digestBytes};
+ghost use Rattle.abi.specs.Words.{digestBytes};
 
 // The digest to be signed of the vendor header.
 #[no_mangle]
@@ -13,8 +14,8 @@ pub extern "C" fn thimmorel_vendor_digest(
     place: &mut [u32; 2],
     digest: &mut [u8; 32],
 ) -> u32
-    ensures { λ r. ⌜ r ≡ outcomeNumber (vendorDigest (now (bytes .entry)) .outcome) ⌝ }
-    ensures { λ r. ⌜ now (place .exit) ≡ outcomeWhere (vendorDigest (now (bytes .entry)) .outcome) ⌝ }
+    ensures { λ r. ⌜ r ≡ numberOf (vendorDigest (now (bytes .entry)) .outcome) ⌝ }
+    ensures { λ r. ⌜ now (place .exit) ≡ whereOf (vendorDigest (now (bytes .entry)) .outcome) ⌝ }
     ensures { λ r. ⌜ now (digest .exit) ≡ digestBytes (vendorDigest (now (bytes .entry)) .outcome) (vendorDigest (now (bytes .entry)) .digest) (now (digest .entry)) ⌝ }
 {
     tell(vendor_digest(bytes), place, digest)
@@ -27,8 +28,8 @@ pub extern "C" fn thimmorel_firmware_digest(
     place: &mut [u32; 2],
     digest: &mut [u8; 32],
 ) -> u32
-    ensures { λ r. ⌜ r ≡ outcomeNumber (firmwareDigest (now (bytes .entry)) .outcome) ⌝ }
-    ensures { λ r. ⌜ now (place .exit) ≡ outcomeWhere (firmwareDigest (now (bytes .entry)) .outcome) ⌝ }
+    ensures { λ r. ⌜ r ≡ numberOf (firmwareDigest (now (bytes .entry)) .outcome) ⌝ }
+    ensures { λ r. ⌜ now (place .exit) ≡ whereOf (firmwareDigest (now (bytes .entry)) .outcome) ⌝ }
     ensures { λ r. ⌜ now (digest .exit) ≡ digestBytes (firmwareDigest (now (bytes .entry)) .outcome) (firmwareDigest (now (bytes .entry)) .digest) (now (digest .entry)) ⌝ }
 {
     tell(firmware_digest(bytes), place, digest)

@@ -14,7 +14,7 @@ use installer::begin;
 use installer::close;
 use installer::erase;
 use installer::fill;
-use installer::full;
+use installer::record::full;
 ghost use mathlib.Core.Path.{_≡_};
 ghost use mathlib.Core.Bool.{cond};
 ghost use lib.ListN.{length};

@@ -6,7 +6,9 @@ use writer::write_firmware;
 use writer::write_vendor;
 ghost use mathlib.Core.Path.{_≡_};
 ghost use Rattle.writer.specs.Writers.{numberOf};
-ghost use Rattle.abi.specs.Headers.{writtenWord, vendorNumbers, vendorAnswer, vendorOutput, firmwareNumbers, firmwareAnswer, firmwareOutput};
+ghost use Rattle.writer.specs.Vendor.{vendorAnswer, vendorOutput};
+ghost use Rattle.writer.specs.Firmware.{firmwareAnswer, firmwareOutput};
+ghost use Rattle.abi.specs.Headers.{writtenWord, vendorNumbers, firmwareNumbers};
 
 // Writes a vendor header to the start of out.
 #[no_mangle]

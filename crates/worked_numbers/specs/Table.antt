@@ -4,14 +4,16 @@ use Prim.Native.Nat.{ℕ, _+_, _-_, _*_}
 use mathlib.Core.Path.{_≡_}
 use mathlib.Core.List.{List, [], _∷_, _++_}
 use mathlib.Core.Bool.{true, false}
-use lib.ListN.{replicate}
-use Rattle.header.specs.Layout.{TRZV, pictureStart, maskAt, firstRoom}
+use lib.ListN.{length, replicate}
+use Rattle.header.specs.Layout.{TRZV, pictureStart, firstRoom}
 use Rattle.header.specs.Table.{firstFailing, vendorShape, vendorPolicy}
+use Rattle.header.specs.Outcome.{numberOf}
 use Rattle.header.specs.Trust.{trustOf}
+use Rattle.image.specs.Answer.{imageOf}
+use Rattle.image.specs.Parts.{pictureOf, whenAccepted}
+use Rattle.image.specs.declared.Answer.the-variants.{Accepted}
 use Rattle.installer.specs.Run.{History, made}
 use Rattle.header.specs.declared.Inputs.{Inputs}
-use Rattle.header.specs.declared.Outcome.{Outcome}
-use Rattle.header.specs.declared.Outcome.the-variants.{Pass, Refused}
 
 -- a worked number: what a definition gives, and what the specification says
 infixl 20 _gives_
@@ -44,30 +46,25 @@ vendor n s expiry mask =
 abbrev pub at : ℕ → Inputs
 at time = record { time = time; m = 2; n = 3; vendor = true; firmware = true }
 
--- the number of an outcome, 0 where it passes
-abbrev pub number : Outcome → ℕ
-number Pass = 0
-number (Refused r) = r .number
-
 -- S3 to S8 of a header with n keys and a string of s bytes
 abbrev pub shapeOf : ℕ → ℕ → ℕ
-shapeOf n s = number (firstFailing (vendorShape (vendor n s 0 0)))
+shapeOf n s = numberOf (firstFailing (vendorShape (vendor n s 0 0)))
 
 -- S9 to S11 of a header with an expiry and a mask, at a time
 abbrev pub policyOf : ℕ → ℕ → ℕ → ℕ
-policyOf expiry mask time = number (firstFailing (vendorPolicy (vendor 2 4 expiry mask) (at time)))
+policyOf expiry mask time = numberOf (firstFailing (vendorPolicy (vendor 2 4 expiry mask) (at time)))
 
 -- a session that was closed with Done: 16 Erase calls, and a file of 1,540 bytes
 abbrev pub installed : History
-installed = record { isOpen = false; erases = 16; given = replicate 1540 0; touched = true; done = true }
+installed = record { isOpen = false; erases = 16; given = replicate 1540 0; touched = true; stored = true; waiting = false; done = true }
 
 abbrev pub workedNumbers : List Worked
 workedNumbers =
     -- P1, P2: where the picture starts
     (pictureStart 2 4 gives 104)
     ∷ (pictureStart 2 3 gives 100)
-    -- P3: the bytes of the picture area
-    ∷ (maskAt 512 - pictureStart 2 4 gives 343)
+    -- P3: the bytes of the picture area that is handed back
+    ∷ (length (whenAccepted (Accepted (imageOf (vendor 2 4 0 0))) (pictureOf (vendor 2 4 0 0))) gives 343)
     -- P4, P5: a string that leaves room, and one that does not
     ∷ (shapeOf 8 155 gives 0)
     ∷ (shapeOf 8 156 gives 5)

@@ -1,30 +1,39 @@
--- An accepted file, taken apart and written again, is the same bytes: field by field what stands from an offset on is the field as it is written and what stands behind it.
+-- An accepted image, taken apart and written again, is the same bytes up to its end: field by field what stands from an offset on is the field as it is written and what stands behind it.
 -- Assumes nothing.
-use mathlib.Core.Path.{_≡_, refl, sym, ap, ap₂, _∙_}
+use mathlib.Core.Path.{_≡_, refl, sym, ap, ap₂, subst, _∙_}
 use mathlib.Core.List.{List, [], _∷_, _++_, append-assoc}
-use mathlib.Core.Bool.{true}
-use Prim.Native.Nat.{ℕ, _+_, _-_, _*_, _/_, _%_, _≤_, _<_}
+use mathlib.Core.Bool.{Bool, true}
+use Prim.Native.Nat.{ℕ, _+_, _-_, _*_, _%_, _≤_, _<_}
 use native.Mathlib.Omega.{arith}
-use lib.ListN.{length, getD, drop, drop-of-length-le}
+use lib.ListN.{length, getD, take, drop, length-append, length-drop, drop-of-length-le}
+use lib.Seq.{take-all, take-at}
 use borrow.Author.Tests.{not-false, eq-eqb, le-ltb}
 use Rattle.octets.specs.Read.{between, startsWith}
 use Rattle.octets.specs.Put.{le16, le32, zeros}
+use Rattle.octets.specs.Rounding.{roundUp}
+use Rattle.octets.proofs.Rounding.{stays}
 use Rattle.header.specs.Layout.{TRZV, TRZF, vendorLen, vendorExpiry, signersNeeded, keyCount, vtrust, stringLenAt, stringStart, stringLen, stringEnd, pictureStart, maskAt, vendorMask, firmwareExpiry, firmwareMask, codeLen, imageLen, firstRoom}
 use Rattle.header.specs.Steps.{vendorMagicMissing}
+use Rattle.header.specs.declared.Inputs.{Inputs}
 use Rattle.header.proofs.Rows.{passes-here, ends}
 use Rattle.header.proofs.Facts.{headers-pass, vendor-allowed, firmware-allowed}
 use Rattle.image.specs.Chunks.{hashesOf, hashTable, codeOf}
-use Rattle.image.specs.Answer.{versionAt}
+use Rattle.image.specs.Answer.{versionAt, imageOf}
+use Rattle.image.specs.Check.{checkFile}
 use Rattle.image.specs.Parts.{stringOf, pictureOf}
-use Rattle.image.proofs.Facts.{Sound, sound, file-rows-pass, file-length, code-length, code-is-rest}
+use Rattle.image.specs.declared.Image.{Image}
+use Rattle.image.specs.declared.Answer.the-variants.{Accepted}
+use Rattle.image.proofs.Facts.{RowsPass, Sound, sound, file-rows-pass, file-told, file-length, length-part, code-length}
+use Rattle.image.proofs.Parts.{slot-rows-pass, slot-told, parts-stand}
 use Rattle.writer.specs.Vendor.{vendorSize, vendorHead, vendorFront, vendorBack, vendorFields, vendorHeader, vendorRefusals}
 use Rattle.writer.specs.Firmware.{quad, joined, firmwareHead, firmwareFields, firmwareHeader, firmwareRefusals}
-use Rattle.writer.specs.Parts.{fileOf, Sized, Taken, partsOf}
-use Rattle.writer.specs.Theorems.{RewrittenImagesAreTheSame}
+use Rattle.writer.specs.Parts.{Parts, Sized, partsOf}
+use Rattle.writer.specs.Theorems.{Rewritten, RewrittenImagesAreTheSame}
 use Rattle.writer.specs.declared.Vendor.{Vendor}
 use Rattle.writer.specs.declared.Firmware.{Firmware}
-use Rattle.writer.proofs.Fields.{on, split-magic, length-part, split-part, split-byte, split-zeros, split-word, split-half, word-small}
+use Rattle.writer.proofs.Fields.{on, split-magic, split-part, split-byte, split-zeros, split-word, split-half, word-small}
 use Rattle.writer.proofs.Joined.{joined-at}
+use Rattle.writer.proofs.Files.{sizeOf, vendorIn, firmwareIn, fileOf, Taken, written-of}
 
 -- ---- the headers as their fields in a row
 
@@ -50,15 +59,22 @@ split-version b a e h l =
     ∙ on (getD b (a + 1) 0 ∷ []) (split-byte b (a + 2) (a + 3) (omega arith) (omega arith)
     ∙ on (getD b (a + 2) 0 ∷ []) (split-byte b (a + 3) e (omega arith) l)))
 
-rounded : (start v : ℕ) → start + 65 ≤ v → v % 512 ≡ 0 → (start + (maskAt v - start) + 65 + (512 - 1)) / 512 * 512 ≡ v
-rounded start v h e = omega arith
+-- a picture that fills its area leaves the header as long as it was
+rounded : (start v : ℕ) → start + 65 ≤ v → v % 512 ≡ 0 → roundUp 512 (start + (maskAt v - start) + 65) ≡ v
+rounded start v h e = let f : start + (maskAt v - start) + 65 ≡ v = omega arith in rw f (stays 512 v (omega arith) e)
 
-past : (x y : ℕ) → x + y - x ≡ y
-past x y = omega arith
+-- what stands before the bytes from n on is the first n
+before : (x b : List ℕ) (n : ℕ) → n ≤ length b → x ++ drop n b ≡ b → x ≡ take n b
+before x b n h e =
+    let l : length x ≡ n = omega (arith, simp (length-append, length-drop) at (ap length e)) in
+    sym (take-at x (drop n b) n l) ∙ ap (take n) e
 
--- ---- the file
+-- ---- the image
 
-module _ (b : List ℕ) (bytes : (i : ℕ) → getD b i 0 < 256) (magic : startsWith TRZV b ≡ true) (k : Sound b) (size : length b ≡ imageLen b) where
+abbrev parts : List ℕ → Parts
+parts b = partsOf (Accepted (imageOf b)) b
+
+module _ (b : List ℕ) (bytes : (i : ℕ) → getD b i 0 < 256) (magic : startsWith TRZV b ≡ true) (k : Sound b) where
   abbrev v : ℕ
   v = vendorLen b
 
@@ -75,14 +91,15 @@ module _ (b : List ℕ) (bytes : (i : ℕ) → getD b i 0 < 256) (magic : starts
   firmwareOf = record { expiry = firmwareExpiry b; version = versionAt b (v + 16); fix = versionAt b (v + 20); mask = firmwareMask b }
 
   long : v + 1024 ≤ length b
-  long = omega (arith, size)
+  long = k .firmware .held
 
   -- the string and the picture area have the lengths that the image says, so the header comes out as long
   string-length : length (stringOf b) ≡ string
-  string-length = length-part b (stringStart n) (stringEnd n string) (omega (arith, long, k .vendor .room)) ∙ past (stringStart n) string
+  string-length = parts-stand b k .stringLong
 
   picture-length : length (pictureOf b) ≡ maskAt v - pictureStart n string
-  picture-length = length-part b (pictureStart n string) (maskAt v) (omega (arith, long))
+  unfolding imageOf
+  picture-length = parts-stand b k .pictureLong
 
   same-size : vendorSize n (length (stringOf b)) (length (pictureOf b)) ≡ v
   same-size = ap₂ (vendorSize n) string-length picture-length ∙ rounded (pictureStart n string) v (k .vendor .room) (k .vendor .size .whole)
@@ -125,7 +142,7 @@ module _ (b : List ℕ) (bytes : (i : ℕ) → getD b i 0 < 256) (magic : starts
   -- the firmware header, field by field
   magic-is : between v (v + 4) b ≡ TRZF
   magic-is =
-      let l : length (between v (v + 4) b) ≡ v + 4 - v = length-part b v (v + 4) (omega (arith, long)) in
+      let l : length (between v (v + 4) b) ≡ 4 = length-part b v (v + 4) 4 refl (omega (arith, long)) in
       split-magic TRZF (between v (v + 4) b) (k .firmware .magic)
       ∙ on TRZF (drop-of-length-le (between v (v + 4) b) {i = 4} (omega arith))
 
@@ -141,7 +158,7 @@ module _ (b : List ℕ) (bytes : (i : ℕ) → getD b i 0 < 256) (magic : starts
       ≡ TRZF ++ (le32 1024 ++ (le32 (firmwareExpiry b) ++ (le32 (codeLen b)
       ++ (quad (versionAt b (v + 16)) ++ (quad (versionAt b (v + 20))
       ++ (zeros 8 ++ (between (v + 32) (v + 544) b ++ (zeros 415
-      ++ (firmwareMask b ∷ (between (v + 960) (v + 1024) b ++ codeOf b))))))))))
+      ++ (firmwareMask b ∷ (between (v + 960) (v + 1024) b ++ (codeOf b ++ drop (imageLen b) b)))))))))))
   firmware-apart =
       split-part b v (v + 4) (omega arith) ∙ ap (λ (l : List ℕ). l ++ drop (v + 4) b) magic-is
       ∙ on TRZF (split-word b bytes (v + 4) (v + 8) (omega arith) (omega (arith, long)) ∙ ap (λ (x : ℕ). le32 x ++ drop (v + 8) b) (k .firmware .size)
@@ -154,75 +171,90 @@ module _ (b : List ℕ) (bytes : (i : ℕ) → getD b i 0 < 256) (magic : starts
       ∙ on (between (v + 32) (v + 544) b) (split-zeros b (v + 544) (v + 959) 415 (omega arith) (omega (arith, long)) (k .firmware .gap)
       ∙ on (zeros 415) (split-byte b (v + 959) (v + 960) (omega arith) (omega (arith, long))
       ∙ on (firmwareMask b ∷ []) (split-part b (v + 960) (v + 1024) (omega arith)
-      ∙ on (between (v + 960) (v + 1024) b) (sym (code-is-rest b size))))))))))))
+      ∙ on (between (v + 960) (v + 1024) b) (split-part b (v + 1024) (imageLen b) (omega arith))))))))))))
 
-  firmware-again : firmwareHeader v firmwareOf (codeOf b) (between (v + 960) (v + 1024) b) ++ codeOf b ≡ drop v b
+  firmware-again : firmwareHeader v firmwareOf (codeOf b) (between (v + 960) (v + 1024) b) ++ (codeOf b ++ drop (imageLen b) b) ≡ drop v b
   unfolding firmwareHeader
   firmware-again =
       rw (code-length b (k .held))
-      (firmware-row firmwareOf (codeLen b) (hashesOf 16 (firstRoom v) (codeOf b)) (between (v + 960) (v + 1024) b) (codeOf b)
+      (firmware-row firmwareOf (codeLen b) (hashesOf 16 (firstRoom v) (codeOf b)) (between (v + 960) (v + 1024) b) (codeOf b ++ drop (imageLen b) b)
       ∙ rw hashes-are (sym firmware-apart))
 
-  file-again : fileOf (partsOf b) ≡ b
-  unfolding fileOf partsOf
+  parts-size : v ≡ sizeOf (parts b)
+  unfolding partsOf
+  parts-size = sym same-size
+
+  file-again : take (imageLen b) b ≡ fileOf (parts b)
+  unfolding fileOf partsOf firmwareHeader
   file-again =
-      on (vendorHeader vendorOf (between 32 (stringLenAt n) b) (stringOf b) (pictureOf b) (between (v - 64) v b))
-      (ap (λ (i : ℕ). firmwareHeader i firmwareOf (codeOf b) (between (v + 960) (v + 1024) b) ++ codeOf b) same-size ∙ firmware-again)
-      ∙ vendor-again
+      sym
+      (before (fileOf (parts b)) b (imageLen b) (k .held)
+      (append-assoc (vendorIn (parts b)) (firmwareIn (parts b) ++ codeOf b) (drop (imageLen b) b)
+      ∙ on (vendorIn (parts b))
+      (append-assoc (firmwareIn (parts b)) (codeOf b) (drop (imageLen b) b)
+      ∙ ap (λ (i : ℕ). firmwareHeader i firmwareOf (codeOf b) (between (v + 960) (v + 1024) b) ++ (codeOf b ++ drop (imageLen b) b)) same-size
+      ∙ firmware-again)
+      ∙ vendor-again))
 
   -- neither writer refuses the parts, which have the sizes of the writers' types
-  parts-taken : Taken (partsOf b)
+  parts-taken : (vroom froom : ℕ) → v ≤ vroom → 1024 ≤ froom → Taken (parts b) vroom froom
   unfolding partsOf vendorRefusals firmwareRefusals
-  parts-taken =
-      let keys : length (between 32 (stringLenAt n) b) ≡ 32 * n = length-part b 32 (stringLenAt n) (omega (arith, long, k .vendor .room)) ∙ past 32 (32 * n) in
+  parts-taken vroom froom h g =
+      let keys : length (between 32 (stringLenAt n) b) ≡ 32 * n = length-part b 32 (stringLenAt n) (32 * n) refl (omega (arith, long, k .vendor .room)) in
       let short : length (stringOf b) ≤ 255 = rw string-length (omega (arith, bytes (stringLenAt n))) in
       record {
         vendorTaken = sym
             (passes-here _ _ (k .vendor .keys .test)
             (passes-here _ _ (rw (eq-eqb (length (between 32 (stringLenAt n) b)) (32 * n) keys, le-ltb 255 (length (stringOf b)) short))
             (passes-here _ _ (rw same-size (le-ltb 65536 v (k .vendor .size .most)))
-            (passes-here _ _ (rw same-size (le-ltb v v (omega arith))) ends))));
+            (passes-here _ _ (rw same-size (le-ltb vroom v h)) ends))));
         firmwareTaken = sym
             (passes-here _ _ (rw same-size (k .vendor .size .test))
             (passes-here _ _ (rw (same-size, code-length b (k .held)) (k .firmware .code .test))
-            (passes-here _ _ refl ends)));
+            (passes-here _ _ (le-ltb froom 1024 g) ends)));
       }
 
-  parts-sized : Sized (partsOf b)
+  parts-sized : Sized (parts b)
   unfolding partsOf
   parts-sized =
       record {
         vendorExpiry32 = word-small b bytes 8;
         expiry32 = word-small b bytes (v + 8);
-        vsig64 = length-part b (v - 64) v (omega (arith, long)) ∙ back v (omega (arith, k .vendor .size .least));
-        sig64 = length-part b (v + 960) (v + 1024) (omega (arith, long)) ∙ between-both v;
+        vsig64 = length-part b (v - 64) v 64 (omega (arith, k .vendor .size .least)) (omega (arith, long));
+        sig64 = length-part b (v + 960) (v + 1024) 64 (omega arith) long;
       }
-    where
-      back : (x : ℕ) → 64 ≤ x → x - (x - 64) ≡ 64
-      back x h = omega arith
 
-      between-both : (x : ℕ) → x + 1024 - (x + 960) ≡ 64
-      between-both x = omega arith
+-- an accepted image, whatever is asked of the bytes behind it
+module _ {tailWrong : Bool} {given : Inputs} (b : List ℕ) (bytes : (i : ℕ) → getD b i 0 < 256) (p : RowsPass (vendorMagicMissing b) tailWrong b given) where
+  own-again : Rewritten (parts b) given (imageOf b .v) (take (imageOf b .v + 1024 + imageOf b .codelen) b)
+  unfolding vendorMagicMissing imageOf partsOf
+  own-again =
+      let r = headers-pass (vendorMagicMissing b) b given (p .headers) in
+      let m : startsWith TRZV b ≡ true = not-false _ (r .magic) in
+      let a = vendor-allowed b given (r .allowed) in
+      let f = firmware-allowed b given (r .signed) in
+      let k = sound p in
+      let s = parts-sized b bytes m k in
+      record {
+        wellFormed = record { sized = s; policy = r .policy; vendorInTime = a .timely; vendorSigned = a .signed; firmwareInTime = f .timely; firmwareSigned = f .signed };
+        same = λ vout fout h g. written-of s (record { size = parts-size b bytes m k; taken = parts-taken b bytes m k (length vout) (length fout) h g; is = file-again b bytes m k });
+      }
+
+  told-again : {i : Image} → imageOf b ≡ i → Rewritten (partsOf (Accepted i) b) given (i .v) (take (i .v + 1024 + i .codelen) b)
+  told-again e = subst (λ (i : Image). Rewritten (partsOf (Accepted i) b) given (i .v) (take (i .v + 1024 + i .codelen) b)) e own-again
+
+-- an accepted file ends where its image does
+file-ends : (b : List ℕ) (given : Inputs) (i : Image) → checkFile b given ≡ Accepted i → take (i .v + 1024 + i .codelen) b ≡ b
+unfolding imageOf
+file-ends b given i h =
+    let l = file-length (vendorMagicMissing b) b given (file-rows-pass b given i h) in
+    let e : imageLen b ≡ i .v + 1024 + i .codelen = ap (λ (j : Image). j .v + 1024 + j .codelen) (file-told b given i h) in
+    take-all (i .v + 1024 + i .codelen) b (omega arith)
 
 -- the second half of the agreement
 pub rewritten-images-are-the-same : RewrittenImagesAreTheSame
-unfolding vendorMagicMissing partsOf
-rewritten-images-are-the-same b bytes given i h =
-    let p = file-rows-pass b given i h in
-    let l = file-length (vendorMagicMissing b) b given p in
-    let r = headers-pass (vendorMagicMissing b) b given (p .headers) in
-    let m : startsWith TRZV b ≡ true = not-false _ (r .magic) in
-    let a = vendor-allowed b given (r .allowed) in
-    let f = firmware-allowed b given (r .signed) in
+rewritten-images-are-the-same =
     record {
-      wellFormed = record {
-        sized = parts-sized b bytes m (sound p) l;
-        taken = parts-taken b bytes m (sound p) l;
-        policy = r .policy;
-        vendorInTime = a .timely;
-        vendorSigned = a .signed;
-        firmwareInTime = f .timely;
-        firmwareSigned = f .signed;
-      };
-      same = file-again b bytes m (sound p) l;
+      file = λ b bytes given i h. rw h (rw (file-ends b given i h) at (told-again b bytes (file-rows-pass b given i h) (file-told b given i h)));
+      slot = λ b bytes given i h. rw h (told-again b bytes (slot-rows-pass b given i h) (slot-told b given i h));
     }

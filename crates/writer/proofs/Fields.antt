@@ -6,7 +6,7 @@ use mathlib.Core.Bool.{true}
 use Prim.Native.Nat.{ℕ, zero, suc, _+_, _-_, _≤_, _<_}
 use native.Mathlib.Omega.{arith}
 use native.Mathlib.Numerals.{add-one}
-use lib.ListN.{length, getD, take, drop, length-take, length-drop, take-append-drop}
+use lib.ListN.{length, getD, take, drop, take-append-drop}
 use lib.Seq.{drop-cons, drop-drop, take-add, getD-append-add, drop-append-add, take-at, drop-at}
 use lib.Dec.{eqb}
 use borrow.Author.Tests.{eqb-true}
@@ -14,6 +14,7 @@ use Rattle.octets.specs.Read.{u16At, u32At, between, allAre, startsWith}
 use Rattle.octets.specs.Put.{le16, le32, zeros}
 use Rattle.octets.proofs.Laws.{and-left, and-right}
 use Rattle.octets.proofs.Numbers.{bytes-of, halves-of, word-below}
+use Rattle.image.proofs.Facts.{length-part}
 
 -- ---- read behind other bytes p
 
@@ -64,10 +65,6 @@ split-magic (x ∷ m) (y ∷ l) h =
     ap₂ (λ (z : ℕ) (r : List ℕ). z ∷ r) (eqb-true y x (and-left (eqb y x) (startsWith m l) h)) (split-magic m l (and-right (eqb y x) (startsWith m l) h))
 
 module _ (b : List ℕ) where
-  pub length-part : (a e : ℕ) → e ≤ length b → length (between a e b) ≡ e - a
-  unfolding between
-  length-part a e h = simp (length-take, length-drop) (omega arith)
-
   pub split-part : (a e : ℕ) → a ≤ e → drop a b ≡ between a e b ++ drop e b
   unfolding between
   split-part a e h =
@@ -88,9 +85,7 @@ module _ (b : List ℕ) where
 
   pub split-zeros : (a e n : ℕ) → e ≡ a + n → e ≤ length b → allAre 0 (between a e b) ≡ true → drop a b ≡ zeros n ++ drop e b
   split-zeros a e n h k z =
-      let d : e - a ≡ n = omega arith in
-      split-part a e (omega arith)
-      ∙ ap (λ (l : List ℕ). l ++ drop e b) (all-zero-is (between a e b) z ∙ ap zeros (length-part a e k ∙ d))
+      split-part a e (omega arith) ∙ ap (λ (l : List ℕ). l ++ drop e b) (all-zero-is (between a e b) z ∙ ap zeros (length-part b a e n h k))
 
   module _ (bytes : (i : ℕ) → getD b i 0 < 256) where
     pub split-word : (a e : ℕ) → e ≡ a + 4 → e ≤ length b → drop a b ≡ le32 (u32At b a) ++ drop e b

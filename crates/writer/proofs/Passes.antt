@@ -3,7 +3,7 @@
 use mathlib.Core.Path.{_≡_, refl, sym, ap, ap₂, _∙_}
 use mathlib.Core.List.{List, [], _∷_, _++_, append-assoc}
 use mathlib.Core.Bool.{true, false, not}
-use Prim.Native.Nat.{ℕ, _+_, _≤_}
+use Prim.Native.Nat.{ℕ, _+_}
 use native.Mathlib.Omega.{arith}
 use lib.ListN.{length, getD, length-append}
 use lib.Seq.{drop-at}
@@ -17,63 +17,32 @@ use Rattle.header.specs.declared.Outcome.the-variants.{Pass}
 use Rattle.header.proofs.Rows.{passes-here, ends, stage-passes}
 use Rattle.image.specs.Chunks.{hashesOf, hashesAt, hashTable, codeOf}
 use Rattle.image.specs.Answer.{imageOf}
+use Rattle.image.specs.Check.{checkFile}
 use Rattle.image.specs.declared.Answer.the-variants.{Accepted}
 use Rattle.image.proofs.Facts.{sound-file-accepted, code-is-rest}
-use Rattle.writer.specs.Vendor.{vendorFields}
-use Rattle.writer.specs.Firmware.{joined, firmwareHead, firmwareFields, firmwareHeader}
-use Rattle.writer.specs.Parts.{Parts, sizeOf, fileOf, Sized, Taken, WellFormed}
+use Rattle.writer.specs.Firmware.{firmwareHead}
+use Rattle.writer.specs.Parts.{Parts, Sized, WellFormed}
 use Rattle.writer.specs.Theorems.{WrittenImagesPass}
-use Rattle.writer.proofs.Taken.{VendorFits, vendor-fits, FirmwareFits, firmware-fits}
-use Rattle.writer.proofs.Joined.{length-hashes, hashes-stand}
-use Rattle.writer.proofs.Standing.{VendorRead, vendor-read, vendor-length, FirmwareRead, firmware-read, firmware-length, firmware-head-length, at-hashes}
+use Rattle.writer.proofs.Joined.{hashes-stand}
+use Rattle.writer.proofs.Standing.{VendorRead, vendor-read, FirmwareRead, firmware-read, firmware-head-length, at-hashes}
+use Rattle.writer.proofs.Files.{sizeOf, hashesIn, vendorIn, firmwareIn, fileOf, file-is, Taken, vendor-fit, firmware-fit, hashes-length, vendor-in-length, headers-length, file-length, written-is}
 
-abbrev pub hashesIn : Parts → List (List ℕ)
-hashesIn p = hashesOf 16 (firstRoom (sizeOf p)) (p .code)
-
-abbrev pub vendorIn : Parts → List ℕ
-vendorIn p = vendorFields (sizeOf p) (p .vendor) (p .keys) (p .string) (p .picture) (p .vsig)
-
-abbrev pub firmwareIn : Parts → List ℕ
-firmwareIn p = firmwareFields (p .firmware) (length (p .code)) (hashesIn p) (p .sig)
-
-pub file-is : (p : Parts) → fileOf p ≡ vendorIn p ++ (firmwareIn p ++ p .code)
-unfolding fileOf firmwareHeader
-file-is p = refl
-
-module _ (p : Parts) (s : Sized p) (t : Taken p) where
-  pub vendor-fit : VendorFits (p .vendor) (length (p .keys)) (length (p .string)) (length (p .picture)) (sizeOf p)
-  vendor-fit = vendor-fits _ _ _ _ _ (t .vendorTaken)
-
-  pub firmware-fit : FirmwareFits (sizeOf p) (length (p .code)) 1024
-  firmware-fit = firmware-fits _ _ _ (t .firmwareTaken)
-
-  pub room : pictureStart (p .vendor .n) (length (p .string)) + length (p .picture) + 65 ≤ sizeOf p
-  room = omega arith
-
-  pub hashes-length : length (joined (hashesIn p)) ≡ 512
-  hashes-length = length-hashes 16 (firstRoom (sizeOf p)) (p .code)
-
-  pub vendor-in-length : length (vendorIn p) ≡ sizeOf p
-  vendor-in-length = vendor-length (sizeOf p) (p .vendor) (p .keys) (p .string) (p .picture) (p .vsig) (firmwareIn p) (vendor-fit .keys) room (s .vsig64)
-
-  firmware-in-length : length (firmwareIn p) ≡ 1024
-  firmware-in-length = firmware-length (p .firmware) (length (p .code)) (hashesIn p) (p .sig) (p .code) hashes-length (s .sig64)
-
+module _ {p : Parts} (s : Sized p) {vroom froom : ℕ} (t : Taken p vroom froom) where
   pub vendor-reads : VendorRead (fileOf p) (sizeOf p) (p .vendor) (length (p .string))
   vendor-reads =
       rw (file-is p)
-      (vendor-read (sizeOf p) (p .vendor) (p .keys) (p .string) (p .picture) (p .vsig) (firmwareIn p ++ p .code) (vendor-fit .keys) room (omega (arith, firmware-fit .size .most)) (s .vendorExpiry32))
+      (vendor-read (sizeOf p) (p .vendor) (p .keys) (p .string) (p .picture) (p .vsig) (firmwareIn p ++ p .code) (vendor-fit t .keys) (vendor-fit t .within) (omega (arith, firmware-fit t .size .most)) (s .vendorExpiry32))
 
   pub firmware-reads : FirmwareRead (fileOf p) (sizeOf p) (p .firmware) (length (p .code))
   firmware-reads =
       rw (file-is p)
-      (firmware-read (p .firmware) (length (p .code)) (hashesIn p) (p .sig) (p .code) hashes-length (vendorIn p) (sizeOf p) vendor-in-length (s .expiry32) (omega (arith, firmware-fit .code .most)))
-
-  pub file-length : length (fileOf p) ≡ sizeOf p + 1024 + length (p .code)
-  file-length = rw (file-is p) (simp (length-append, vendor-in-length, firmware-in-length) (omega arith))
+      (firmware-read (p .firmware) (length (p .code)) (hashesIn p) (p .sig) (p .code) (hashes-length p) (vendorIn p) (sizeOf p) (vendor-in-length s t) (s .expiry32) (omega (arith, firmware-fit t .code .most)))
 
   string-reads : stringLen (fileOf p) ≡ length (p .string)
   string-reads = ap (λ (n : ℕ). getD (fileOf p) (stringLenAt n) 0) (vendor-reads .count) ∙ vendor-reads .string
+
+  whole : length (fileOf p) ≡ imageLen (fileOf p)
+  whole = rw (vendor-reads .len, firmware-reads .code) (file-length s t)
 
   -- ---- the steps
 
@@ -87,13 +56,13 @@ module _ (p : Parts) (s : Sized p) (t : Taken p) where
   unfolding vendorShape shorterThanAnyHeader vendorLenImpossible vendorHeaderCut vendorKeysImpossible stringLeavesNoRoom vendorBytesNotZero
   vendor-shape-passes =
       let r = vendor-reads in
-      let l = file-length in
+      let l = file-length s t in
       sym
-      (passes-here _ _ (le-ltb (length (fileOf p)) 512 (omega (arith, firmware-fit .size .least)))
-      (passes-here _ _ (rw (r .len) (firmware-fit .size .test))
+      (passes-here _ _ (le-ltb (length (fileOf p)) 512 (omega (arith, firmware-fit t .size .least)))
+      (passes-here _ _ (rw (r .len) (firmware-fit t .size .test))
       (passes-here _ _ (rw (r .len) (le-ltb (length (fileOf p)) (sizeOf p) (omega arith)))
-      (passes-here _ _ (rw (r .signers, r .count) (vendor-fit .policy))
-      (passes-here _ _ (rw (r .len, string-reads, r .count) (le-ltb (sizeOf p) (pictureStart (p .vendor .n) (length (p .string)) + 65) (omega (arith, room))))
+      (passes-here _ _ (rw (r .signers, r .count) (vendor-fit t .policy))
+      (passes-here _ _ (rw (r .len, string-reads, r .count) (le-ltb (sizeOf p) (pictureStart (p .vendor .n) (length (p .string)) + 65) (omega (arith, vendor-fit t .within))))
       (passes-here _ _ (rw (string-reads, r .count, r .reserved, r .padding)) ends))))))
 
   -- S12 to S17
@@ -102,28 +71,27 @@ module _ (p : Parts) (s : Sized p) (t : Taken p) where
   firmware-shape-passes =
       let v = vendor-reads .len in
       let r = firmware-reads in
-      let l = file-length in
+      let l = file-length s t in
       sym
       (passes-here _ _ (rw v (le-ltb (length (fileOf p)) (sizeOf p + 1024) (omega arith)))
       (passes-here _ _ (rw v (ap not (r .magic)))
       (passes-here _ _ (rw (v, r .len))
-      (passes-here _ _ (rw v (ne-eqb (firstRoom (sizeOf p)) 0 (λ e. omega (arith, firmware-fit .size .most))))
-      (passes-here _ _ (rw (v, r .code) (firmware-fit .code .test))
+      (passes-here _ _ (rw v (ne-eqb (firstRoom (sizeOf p)) 0 (λ e. omega (arith, firmware-fit t .size .most))))
+      (passes-here _ _ (rw (v, r .code) (firmware-fit t .code .test))
       (passes-here _ _ (rw (v, r .reserved, r .gap)) ends))))))
 
   -- S23
   code-there : codeOf (fileOf p) ≡ p .code
   code-there =
-      let e : length (fileOf p) ≡ imageLen (fileOf p) = rw (vendor-reads .len, firmware-reads .code) file-length in
-      code-is-rest (fileOf p) e
+      code-is-rest (fileOf p) whole
       ∙ rw (vendor-reads .len, file-is p, ← append-assoc (vendorIn p) (firmwareIn p) (p .code))
-      (drop-at (vendorIn p ++ firmwareIn p) (p .code) (sizeOf p + 1024) (length-append (vendorIn p) (firmwareIn p) ∙ ap₂ (λ (x y : ℕ). x + y) vendor-in-length firmware-in-length))
+      (drop-at (vendorIn p ++ firmwareIn p) (p .code) (sizeOf p + 1024) (headers-length s t))
 
   hashes-there : hashTable (fileOf p) ≡ hashesIn p
   unfolding hashTable
   hashes-there =
       let w : List ℕ = vendorIn p ++ firmwareHead (p .firmware) (length (p .code)) in
-      let l : length w ≡ sizeOf p + 32 = length-append (vendorIn p) _ ∙ ap₂ (λ (x y : ℕ). x + y) vendor-in-length (firmware-head-length (p .firmware) (length (p .code)) [] [] []) in
+      let l : length w ≡ sizeOf p + 32 = length-append (vendorIn p) _ ∙ ap₂ (λ (x y : ℕ). x + y) (vendor-in-length s t) (firmware-head-length (p .firmware) (length (p .code)) [] [] []) in
       rw (vendor-reads .len)
       (ap (λ (b : List ℕ). hashesAt 16 b (sizeOf p + 32))
       (file-is p
@@ -140,12 +108,12 @@ module _ (p : Parts) (s : Sized p) (t : Taken p) where
 
 -- ---- a well-formed image
 
-module _ (p : Parts) (given : Inputs) (w : WellFormed p given) (yesVendor : given .vendor ≡ true) (yesFirmware : given .firmware ≡ true) where
+module _ {p : Parts} {given : Inputs} (w : WellFormed p given) {vroom froom : ℕ} (t : Taken p vroom froom) (yesVendor : given .vendor ≡ true) (yesFirmware : given .firmware ≡ true) where
   -- S9 to S11
   vendor-policy-passes : firstFailing (vendorPolicy (fileOf p) given) ≡ Pass
   unfolding vendorPolicy vendorExpired vendorMaskWrong
   vendor-policy-passes =
-      let r = vendor-reads p (w .sized) (w .taken) in
+      let r = vendor-reads (w .sized) t in
       sym
       (passes-here _ _ (rw (r .expiry) (w .vendorInTime))
       (passes-here _ _ (rw (r .len, r .mask) (w .vendorSigned))
@@ -155,8 +123,8 @@ module _ (p : Parts) (given : Inputs) (w : WellFormed p given) (yesVendor : give
   firmware-policy-passes : firstFailing (firmwarePolicy (fileOf p) given) ≡ Pass
   unfolding firmwarePolicy firmwareExpired firmwareMaskWrong
   firmware-policy-passes =
-      let v = vendor-reads p (w .sized) (w .taken) in
-      let r = firmware-reads p (w .sized) (w .taken) in
+      let v = vendor-reads (w .sized) t in
+      let r = firmware-reads (w .sized) t in
       sym
       (passes-here _ _ (rw (v .len, r .expiry) (w .firmwareInTime))
       (passes-here _ _ (rw (v .len, v .signers, v .count, r .mask) (w .firmwareSigned))
@@ -167,16 +135,17 @@ module _ (p : Parts) (given : Inputs) (w : WellFormed p given) (yesVendor : give
   unfolding headerRows policyImpossible
   headers-pass =
       sym
-      (passes-here _ _ (magic-there p (w .sized) (w .taken))
+      (passes-here _ _ (magic-there (w .sized) t)
       (passes-here _ _ (w .policy)
-      (stage-passes _ _ (sym (vendor-shape-passes p (w .sized) (w .taken))) refl
+      (stage-passes _ _ (sym (vendor-shape-passes (w .sized) t)) refl
       (stage-passes _ _ (sym vendor-policy-passes) refl
-      (stage-passes _ _ (sym (firmware-shape-passes p (w .sized) (w .taken))) refl (sym firmware-policy-passes))))))
+      (stage-passes _ _ (sym (firmware-shape-passes (w .sized) t)) refl (sym firmware-policy-passes))))))
+
+  file-passes : checkFile (fileOf p) given ≡ Accepted (record { v = sizeOf p; codelen = length (p .code); version = p .firmware .version; fix = p .firmware .fix })
+  file-passes = let s = w .sized in sound-file-accepted (fileOf p) given headers-pass (whole s t) (hashes-right s t) ∙ ap Accepted (told s t)
 
 -- the first half of the agreement
 pub written-images-pass : WrittenImagesPass
-written-images-pass p given w yesVendor yesFirmware =
-    let s = w .sized in
-    let t = w .taken in
-    let e : length (fileOf p) ≡ imageLen (fileOf p) = rw (vendor-reads p s t .len, firmware-reads p s t .code) (file-length p s t) in
-    sound-file-accepted (fileOf p) given (headers-pass p given w yesVendor yesFirmware) e (hashes-right p s t) ∙ ap Accepted (told p s t)
+written-images-pass p v vout fout file given w k yesVendor yesFirmware =
+    let f = written-is (k .sized) w in
+    rw (f .is, f .size) (file-passes k (f .taken) yesVendor yesFirmware)

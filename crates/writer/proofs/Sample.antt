@@ -1,4 +1,4 @@
--- Some parts are well-formed, so the theorems speak of something: every test of this sample computes.
+-- Some parts are well-formed and the writers leave a file of them, so the theorems speak of something: every test of this sample computes.
 -- Assumes nothing.
 use mathlib.Core.Path.{refl}
 use mathlib.Core.List.{[], _∷_}
@@ -11,7 +11,8 @@ use Rattle.header.specs.Table.{firstFailing}
 use Rattle.header.specs.declared.Inputs.{Inputs}
 use Rattle.writer.specs.Vendor.{vendorRefusals}
 use Rattle.writer.specs.Firmware.{firmwareRefusals}
-use Rattle.writer.specs.Parts.{Parts, WellFormed}
+use Rattle.writer.specs.Parts.{Parts, WellFormed, WrittenFile}
+use Rattle.writer.proofs.Files.{fileOf, written-of}
 
 abbrev sample : Parts
 sample =
@@ -30,14 +31,18 @@ abbrev asked : Inputs
 asked = record { time = 100; m = 2; n = 3; vendor = true; firmware = true }
 
 pub some-parts-are-well-formed : WellFormed sample asked
-unfolding firstFailing vendorRefusals firmwareRefusals bitAtOrAbove onesOf ones
+unfolding bitAtOrAbove onesOf ones
 some-parts-are-well-formed =
     record {
       sized = record { vendorExpiry32 = omega arith; expiry32 = omega arith; vsig64 = refl; sig64 = refl };
-      taken = record { vendorTaken = refl; firmwareTaken = refl };
       policy = refl;
       vendorInTime = refl;
       vendorSigned = refl;
       firmwareInTime = refl;
       firmwareSigned = refl;
     }
+
+-- with a byte to spare in each output
+pub some-file-is-written : WrittenFile sample 512 (replicate 513 255) (replicate 1025 255) (fileOf sample)
+unfolding firstFailing vendorRefusals firmwareRefusals
+some-file-is-written = written-of (some-parts-are-well-formed .sized) (record { size = refl; taken = record { vendorTaken = refl; firmwareTaken = refl }; is = refl })

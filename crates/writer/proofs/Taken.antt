@@ -1,15 +1,17 @@
 -- What a writer knows where no row refuses, and what it answers and leaves by the outcome of its rows.
 -- Assumes nothing.
-use mathlib.Core.Path.{_≡_, sym, ap, _∙_}
+use mathlib.Core.Path.{_≡_, refl, sym, ap, _∙_}
 use mathlib.Core.List.{List}
 use mathlib.Core.Bool.{Bool, false, not, _||_}
 use Prim.Native.Nat.{ℕ, _+_, _*_, _≤_}
 use native.Mathlib.Omega.{arith}
-use lib.ListN.{length, length-append}
+use lib.ListN.{length, take, drop, length-append}
+use lib.Seq.{take-at}
 use lib.Dec.{ltb, eqb}
 use borrow.Author.Tests.{ltb-false, eqb-true, not-false}
 use Rattle.octets.specs.Put.{Put}
 use Rattle.octets.specs.Rounding.{roundUp}
+use Rattle.octets.proofs.Rounding.{rounds-up}
 use Rattle.octets.proofs.Splice.{splice-start, length-zeros}
 use Rattle.header.specs.Layout.{pictureStart}
 use Rattle.header.specs.Steps.{keysImpossible}
@@ -27,6 +29,10 @@ use Rattle.writer.specs.declared.Written.the-variants.{Header, Not}
 
 -- ---- the vendor writer
 
+-- a header's length holds what it must
+pub size-holds : (x : ℕ) → x ≤ roundUp 512 x
+size-holds x = rounds-up 512 x (omega arith) .holds
+
 -- the test of 20
 pub lengths-right : (k n s : ℕ) → (not (eqb k (32 * n)) || ltb 255 s) ≡ false → (k ≡ 32 * n) × (s ≤ 255)
 lengths-right k n s h =
@@ -40,6 +46,7 @@ pub record VendorFits (f : Vendor) (k s p room : ℕ) : Type 0 where
   pub policy : keysImpossible (f .m) (f .n) ≡ false
   pub keys : k ≡ 32 * f .n
   pub string : s ≤ 255
+  pub within : pictureStart (f .n) s + p + 65 ≤ vendorSize (f .n) s p
   pub size : vendorSize (f .n) s p ≤ 65536
   pub holds : vendorSize (f .n) s p ≤ room
 
@@ -54,6 +61,7 @@ vendor-fits f k s p room h4 =
       policy = pass-head _ _ _ h4;
       keys = l .0;
       string = l .1;
+      within = size-holds _;
       size = ltb-false _ _ (pass-head _ _ _ h3);
       holds = ltb-false _ _ (pass-head _ _ _ h21);
     }
@@ -89,3 +97,12 @@ refused v h d e f = (sym (rw (← e, f)), sym (rw (← e, f)))
 
 pub wrote : {x o : Outcome} {v w b : ℕ} {h d q : List ℕ} → x ≡ o → x ≡ Pass → w ≡ v → Put 0 h d b q → (Header w ≡ answered o v) × (q ≡ output o h d)
 wrote {h = h} {d = d} e f l p = (rw (← e, f) (ap Header l), rw (← e, f) (p .is ∙ splice-start h d))
+
+-- a success says that the rows pass, and tells the header's length, n
+pub succeeded : (o : Outcome) (n v : ℕ) → answered o n ≡ Header v → (o ≡ Pass) × (v ≡ n)
+succeeded Pass n v h = (refl, cc)
+succeeded (Refused r) n v h = (cc, cc)
+
+-- and the header stands at the output's start
+pub left : {o : Outcome} (h out : List ℕ) (n : ℕ) → o ≡ Pass → length h ≡ n → take n (output o h out) ≡ h
+left h out n e l = rw e (take-at h (drop (length h) out) n l)

@@ -1,4 +1,4 @@
--- The firmware header as its fields one behind the other, and when its writer refuses (specification, 3 and 8.2).
+-- The firmware header as its fields one behind the other, when its writer refuses, and what the call answers and leaves (specification, 3 and 8.2).
 -- Assumes nothing.
 use Prim.Native.Nat.{ℕ}
 use mathlib.Core.List.{List, [], _∷_, _++_}
@@ -7,10 +7,12 @@ use lib.Dec.{ltb}
 use Rattle.octets.specs.Put.{le32, zeros}
 use Rattle.header.specs.Layout.{TRZF, firstRoom}
 use Rattle.header.specs.Steps.{lengthImpossible, codeLenImpossible}
-use Rattle.header.specs.Table.{Row, step}
+use Rattle.header.specs.Table.{Row, step, firstFailing}
 use Rattle.image.specs.Chunks.{hashesOf}
 use Rattle.image.specs.declared.Version.{Version}
+use Rattle.writer.specs.Writers.{answered, output}
 use Rattle.writer.specs.declared.Firmware.{Firmware}
+use Rattle.writer.specs.declared.Written.{Written}
 
 -- ---- the fields
 
@@ -49,3 +51,11 @@ firmwareRefusals v codelen room =
     ∷ step (codeLenImpossible v codelen) 12 0
     ∷ step (ltb room 1024) 21 0
     ∷ []
+
+-- ---- the call: what it answers and leaves, by v, the code, the signature and the output
+
+abbrev pub firmwareAnswer : ℕ → List ℕ → List ℕ → Written
+firmwareAnswer v code out = answered (firstFailing (firmwareRefusals v (length code) (length out))) 1024
+
+abbrev pub firmwareOutput : ℕ → Firmware → List ℕ → List ℕ → List ℕ → List ℕ
+firmwareOutput v f code sig out = output (firstFailing (firmwareRefusals v (length code) (length out))) (firmwareHeader v f code sig) out

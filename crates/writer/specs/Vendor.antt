@@ -1,4 +1,4 @@
--- The vendor header as its fields one behind the other, and when its writer refuses (specification, 2 and 8.1).
+-- The vendor header as its fields one behind the other, when its writer refuses, and what the call answers and leaves (specification, 2 and 8.1).
 -- Assumes nothing.
 use Prim.Native.Nat.{ℕ, _+_, _-_, _*_}
 use mathlib.Core.List.{List, [], _∷_, _++_}
@@ -9,8 +9,10 @@ use Rattle.octets.specs.Put.{le16, le32, zeros}
 use Rattle.octets.specs.Rounding.{roundUp}
 use Rattle.header.specs.Layout.{TRZV, stringEnd, pictureStart, maskAt}
 use Rattle.header.specs.Steps.{keysImpossible}
-use Rattle.header.specs.Table.{Row, step}
+use Rattle.header.specs.Table.{Row, step, firstFailing}
+use Rattle.writer.specs.Writers.{answered, output}
 use Rattle.writer.specs.declared.Vendor.{Vendor}
+use Rattle.writer.specs.declared.Written.{Written}
 
 -- v: the least multiple of 512 that holds a string of s bytes behind n keys, and a picture of p bytes
 abbrev pub vendorSize : ℕ → ℕ → ℕ → ℕ
@@ -59,3 +61,18 @@ vendorRefusals f k s p room =
     ∷ step (ltb 65536 (vendorSize (f .n) s p)) 3 0
     ∷ step (ltb room (vendorSize (f .n) s p)) 21 0
     ∷ []
+
+-- ---- the call: what it answers and leaves, by the keys, the string, the picture, the signature and the output
+
+abbrev pub vendorAnswer : Vendor → List ℕ → List ℕ → List ℕ → List ℕ → Written
+vendorAnswer f keys string picture out =
+    answered
+    (firstFailing (vendorRefusals f (length keys) (length string) (length picture) (length out)))
+    (vendorSize (f .n) (length string) (length picture))
+
+abbrev pub vendorOutput : Vendor → List ℕ → List ℕ → List ℕ → List ℕ → List ℕ → List ℕ
+vendorOutput f keys string picture sig out =
+    output
+    (firstFailing (vendorRefusals f (length keys) (length string) (length picture) (length out)))
+    (vendorHeader f keys string picture sig)
+    out

@@ -29,12 +29,12 @@ ghost use lib.ListN.{length};
 ghost use lib.Dec.{ltb};
 ghost use Rattle.octets.specs.Put.{Put};
 ghost use Rattle.octets.specs.Rounding.{roundUp};
-ghost use Rattle.header.specs.Layout.{firstRoom, pictureStart};
+ghost use Rattle.header.specs.Layout.{pictureStart};
 ghost use Rattle.header.specs.Table.{firstFailing};
 ghost use Rattle.image.specs.Chunks.{hashesOf};
-ghost use Rattle.writer.specs.Writers.{answered, output};
-ghost use Rattle.writer.specs.Vendor.{vendorSize, vendorHead, vendorFront, vendorBack, vendorHeader, vendorRefusals};
-ghost use Rattle.writer.specs.Firmware.{joined, firmwareHead, firmwareFields, firmwareHeader, firmwareRefusals};
+ghost use Rattle.writer.specs.Writers.{told};
+ghost use Rattle.writer.specs.Vendor.{vendorHead, vendorFront, vendorBack, vendorRefusals, vendorAnswer, vendorOutput};
+ghost use Rattle.writer.specs.Firmware.{joined, firmwareHead, firmwareFields, firmwareRefusals, firmwareAnswer, firmwareOutput};
 
 // The numbers of a vendor header: m of n is what its keys ask of a firmware header.
 pub struct Vendor {
@@ -188,9 +188,10 @@ pub fn write_vendor(
     out: &mut [u8],
 ) -> Written
     ensures { λ r. ⌜
-        (r ≡ answered (firstFailing (vendorRefusals f (length (now (keys .entry))) (length (now (string .entry))) (length (now (picture .entry))) (length (now (out .entry))))) (vendorSize (f .n) (length (now (string .entry))) (length (now (picture .entry)))))
-        × (now (out .exit) ≡ output (firstFailing (vendorRefusals f (length (now (keys .entry))) (length (now (string .entry))) (length (now (picture .entry))) (length (now (out .entry))))) (vendorHeader f (now (keys .entry)) (now (string .entry)) (now (picture .entry)) (now (sig .entry))) (now (out .entry)))
+        (r ≡ vendorAnswer f (now (keys .entry)) (now (string .entry)) (now (picture .entry)) (now (out .entry)))
+        × (now (out .exit) ≡ vendorOutput f (now (keys .entry)) (now (string .entry)) (now (picture .entry)) (now (sig .entry)) (now (out .entry)))
         ⌝ }
+    ensures told { λ r. ⌜ told r ≡ told (vendorAnswer f (now (keys .entry)) (now (string .entry)) (now (picture .entry)) (now (out .entry))) ⌝ }
 {
     let refusal = vendor_refusals(f, keys.len(), string.len(), picture.len(), out.len());
     if let Outcome::Refused(r) = refusal {
@@ -326,9 +327,10 @@ fn firmware_refusals(v: u32, codelen: usize, room: usize) -> Outcome
 // header of v bytes.
 pub fn write_firmware(v: u32, f: Firmware, code: &[u8], sig: &[u8; 64], out: &mut [u8]) -> Written
     ensures { λ r. ⌜
-        (r ≡ answered (firstFailing (firmwareRefusals v (length (now (code .entry))) (length (now (out .entry))))) 1024)
-        × (now (out .exit) ≡ output (firstFailing (firmwareRefusals v (length (now (code .entry))) (length (now (out .entry))))) (firmwareHeader v f (now (code .entry)) (now (sig .entry))) (now (out .entry)))
+        (r ≡ firmwareAnswer v (now (code .entry)) (now (out .entry)))
+        × (now (out .exit) ≡ firmwareOutput v f (now (code .entry)) (now (sig .entry)) (now (out .entry)))
         ⌝ }
+    ensures told { λ r. ⌜ told r ≡ told (firmwareAnswer v (now (code .entry)) (now (out .entry))) ⌝ }
 {
     let refusal = firmware_refusals(v, code.len(), out.len());
     if let Outcome::Refused(r) = refusal {

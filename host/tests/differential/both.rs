@@ -114,13 +114,11 @@ impl Both {
         BEFORE..BEFORE + self.lent
     }
 
-    /// A record that the model leaves as it was stays as it was. The reserved words become 0 where
-    /// the call writes the record, and stay otherwise.
-    fn compare(&self, words_before: &Words, record_before: &Record, writes: bool) {
+    /// A record that the model leaves as it was stays as it was. The reserved words always stay.
+    fn compare(&self, words_before: &Words, record_before: &Record) {
         assert!(self.memory == self.expected, "the slots differ");
         assert_same(&record_of(&self.words), &self.record);
-        let reserved = if writes { &[0; 8] } else { &words_before[8..] };
-        assert_eq!(self.words[8..], *reserved, "the reserved words");
+        assert_eq!(self.words[8..], words_before[8..], "the reserved words");
         if self.record == *record_before {
             assert_eq!(self.words[..8], words_before[..8], "an unchanged record");
         }
@@ -131,7 +129,7 @@ impl Both {
         let answer = archive::erase(&mut self.words, &mut self.memory[view.clone()]);
         let by_model = model::erase(&mut self.record, &mut self.expected[view]);
         assert_eq!(answer, by_model, "erase");
-        self.compare(&words, &record, answer.is_ok());
+        self.compare(&words, &record);
         answer
     }
 
@@ -140,7 +138,7 @@ impl Both {
         let answer = archive::fill(&mut self.words, piece, &mut self.memory[view.clone()]);
         let by_model = model::fill(&mut self.record, piece, &mut self.expected[view]);
         assert_eq!(answer, by_model, "fill");
-        self.compare(&words, &record, answer.is_ok());
+        self.compare(&words, &record);
         answer
     }
 
@@ -148,7 +146,7 @@ impl Both {
         let answer = archive::ask(&self.words, &self.memory[self.view()]);
         let by_model = model::ask(&self.record, &self.expected[self.view()]);
         assert_eq!(answer, by_model, "ask");
-        self.compare(&self.words, &self.record, false);
+        self.compare(&self.words, &self.record);
         answer
     }
 
@@ -158,8 +156,7 @@ impl Both {
         let answer = archive::close(&mut self.words, &mut self.memory[view.clone()], inputs);
         let by_model = model::close(&mut self.record, &mut self.expected[view], inputs);
         assert_eq!(answer, by_model, "close");
-        let checked = self.record.phase != record.phase;
-        self.compare(&words, &record, checked);
+        self.compare(&words, &record);
         assert_eq!(self.words[1..5], words[1..5]);
         assert_eq!(self.words[6..8], words[6..8]);
         answer

@@ -14,7 +14,7 @@
 //! - The phase of a session follows from its numbers, and a record that no session reaches is
 //!   inconsistent. So erase answers 19 once all pages are erased, and every call does with bytes
 //!   taken while pages are still to be erased.
-//! - A first word of a record other than 1 is a session that is over.
+//! - A first word of a record other than 1 answers 19 in every call here.
 //! - 23 is answered only where a word would be stored. A fill that completes no word, or the first,
 //!   does not look at the slot. At 23 no byte of the piece is taken. Close tests the first word
 //!   before it runs the check. Ask never answers 23.
@@ -24,7 +24,7 @@
 //!
 //! Two more such points are not modelled, and are tested in `differential`: `where` is always
 //! written and is 0 on success (archive/mod.rs), and the reserved words of a record are not read,
-//! and are 0 once a call has written the record (both.rs).
+//! are 0 after begin, and stay as they are in every other call (both.rs).
 
 // Each test takes the models that it needs.
 #![allow(dead_code)]

@@ -3,6 +3,8 @@ use borrow.Author.Needs.{needs}
 use mathlib.Core.Path.{_≡_}
 use denote.Ref.{now}
 use lib.ListN.{length}
+use Rattle.header.proofs.Told.{told-too}
+use Rattle.image.specs.Answer.{told}
 use Rattle.image.proofs.Alike.{file-word-apart}
 use Rattle.image.proofs.check_file_word_apart.Statement.{statement}
 use Rattle.image.proofs.check_file_word_apart.Tie as tie
@@ -11,7 +13,7 @@ returns : tie.Need-returns
 returns c =
     let a = c .before .before .before .before .before .before .before .args in
     let l : length (a .t1) ≡ 4 = search needs in
-    file-word-apart (a .t1) (now (a .b)) (a .given) l (c .before .before .before .starts-with .ensures) (c .before .before .bytes-follow .ensures) (c .before .check-rows .ensures) (c .answer-of .ensures)
+    told-too told (file-word-apart (a .t1) (now (a .b)) (a .given) l (c .before .before .before .starts-with .ensures) (c .before .before .bytes-follow .ensures) (c .before .check-rows .ensures) (c .answer-of .ensures))
 
 pub check-file-word-apart-spec : {M : Type 1} → statement M
 check-file-word-apart-spec =

@@ -1,6 +1,8 @@
 -- `image::check_slot` meets its contract: S1, S22, the rows and the answer are what the calls promise.
 use Rattle.image.proofs.Facts.{answered}
 use borrow.Author.Needs.{needs}
+use Rattle.header.proofs.Told.{told-too}
+use Rattle.image.specs.Answer.{told}
 use Rattle.image.specs.Check.{checkSlot}
 use Rattle.image.proofs.check_slot.Statement.{statement}
 use Rattle.image.proofs.check_slot.Tie as tie
@@ -14,4 +16,4 @@ check-slot-spec =
     (λ c κs. search needs)
     (λ c κs. search needs)
     (λ c κs. search needs)
-    (λ c. search (answered)))
+    (λ c. told-too told (search (answered))))

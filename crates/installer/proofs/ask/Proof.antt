@@ -10,6 +10,7 @@ use borrow.Author.Needs.{needs}
 use Rattle.installer.specs.Record.{full}
 use Rattle.installer.specs.declared.Session.{Session}
 use Rattle.installer.proofs.Facts.{Sound, passed-full, barred-full}
+use Rattle.installer.proofs.Told.{asked-told}
 use Rattle.installer.proofs.ask.Statement.{statement}
 use Rattle.installer.proofs.ask.Tie as tie
 
@@ -31,12 +32,12 @@ ask-spec =
     (λ c κs. search needs)
     (λ c.
     let f = c .before .before .before in
-    rw (barred-full _ _ _ (f .full .ensures) (c .before .before .if1 .taken), ← c .before .no-digest .ensures) (cc))
-    (λ c. let d : tie.Else1 = c .before .before in sym (length-take-le (recordOf d .file) (slotOf d) (ready d .0 .fileMost)))
+    asked-told (rw (barred-full _ _ _ (f .full .ensures) (c .before .before .if1 .taken), ← c .before .no-digest .ensures) (cc)))
+    (λ c. let d : tie.Else1 = c .before .before in sym (length-take-le (recordOf d .file) (slotOf d) (ready d .0 .lengths .fileMost)))
     (λ c κs. search needs)
-    (λ c. let d : tie.Else1 = c .before .before .before .before in sym (length-take-le (recordOf d .file) (slotOf d) (ready d .0 .fileMost)))
+    (λ c. let d : tie.Else1 = c .before .before .before .before in sym (length-take-le (recordOf d .file) (slotOf d) (ready d .0 .lengths .fileMost)))
     (λ c κs. search needs)
     (λ c.
     let v = c .before .before in
     let d : tie.Else1 = v .before .before .before in
-    rw (ready d .1, ← v .vendor-digest-word-apart .ensures, ← c .firmware-digest-word-apart .ensures)))
+    asked-told (rw (ready d .1, ← v .vendor-digest-word-apart .ensures .0, ← c .firmware-digest-word-apart .ensures .0))))

@@ -1,12 +1,15 @@
 -- Each test's result is the callee's promise, and the tests are made in the definition's order.
 use Prim.Native.Nat.{ℕ}
 use denote.Ref.{now}
-use mathlib.Core.Path.{_≡_, sym, _∙_}
+use mathlib.Core.Path.{_≡_, sym, ap, _∙_}
 use lib.ListN.{length}
 use borrow.Author.Needs.{needs}
 use borrow.Author.Tests.{not-true, not-false}
 use Rattle.installer.specs.Record.{slotLenRight, fileLenRight}
-use Rattle.installer.specs.Calls.{beginOf}
+use Rattle.installer.specs.Calls.{turn, beginOf}
+use Rattle.installer.specs.declared.Session.{Session}
+use Rattle.installer.specs.declared.Reply.the-variants.{Begun, Refused}
+use Rattle.installer.proofs.Told.{turn-told}
 use Rattle.installer.proofs.begin.Statement.{statement}
 use Rattle.installer.proofs.begin.Tie as tie
 
@@ -27,15 +30,13 @@ begin-spec =
     (tie.spec
     (λ c κs. search needs)
     (λ c κs. search needs)
+    (λ c. turn-told (rw (sym (slotTest (c .before .before)) ∙ not-true _ (c .before .if1 .taken)) (ap (λ (s : Session). turn s (Refused 22)) (c .new-record .ensures))))
     (λ c κs. search needs)
-    (λ c. rw (sym (slotTest (c .before .before .before)) ∙ not-true _ (c .before .before .if1 .taken)) (cc))
-    (λ c κs. search needs)
-    (λ c κs. search needs)
-    (λ c κs. search needs)
-    (λ c.
-    let b = c .before .before .before in
-    rw (sym (slotTest (b .before .before)) ∙ not-false _ (b .before .if1 .left), sym (fileTest b) ∙ not-true _ (c .before .before .if2 .taken)) (cc))
     (λ c κs. search needs)
     (λ c.
     let b = c .before .before in
-    rw (sym (slotTest (b .before .before)) ∙ not-false _ (b .before .if1 .left), sym (fileTest b) ∙ not-false _ (c .before .if2 .left)) (cc)))
+    turn-told (rw (sym (slotTest (b .before .before)) ∙ not-false _ (b .before .if1 .left), sym (fileTest b) ∙ not-true _ (c .before .if2 .taken)) (ap (λ (s : Session). turn s (Refused 18)) (c .new-record2 .ensures))))
+    (λ c κs. search needs)
+    (λ c.
+    let b = c .before .before in
+    turn-told (rw (sym (slotTest (b .before .before)) ∙ not-false _ (b .before .if1 .left), sym (fileTest b) ∙ not-false _ (c .before .if2 .left)) (ap (λ (s : Session). turn s Begun) (c .new-record3 .ensures)))))

@@ -1,103 +1,8 @@
--- Each return is one case of the definition: its tests are the callees' promises and the branches on the way; the word's place lies in the slot, and comes back with the word in it.
-use native.Mathlib.Omega.{arith}
-use Prim.Native.Nat.{ℕ, _/_, _*_, _-_, _≤_}
-use mathlib.Core.Path.{_≡_, sym, ap, _∙_}
-use mathlib.Core.List.{List}
-use mathlib.Core.Bool.{true, false}
-use borrow.Author.Tests.{ne-eqb, eq-eqb, lt-ltb, le-ltb, not-true, not-false}
-use lib.Dec.{eqb}
-use lib.ListN.{length, take, drop}
-use denote.Ref.{now}
-use Rattle.installer.specs.declared.Session.{Session}
-use Rattle.flash.specs.Flash.{startsErased}
-use Rattle.flash.proofs.Laws.{word-whole}
-use Rattle.installer.specs.Record.{pagesOf, filling}
-use Rattle.installer.specs.Calls.{inFirstWord}
-use Rattle.installer.proofs.Facts.{Sound, passed, barred}
-use Rattle.installer.proofs.Parts.{part-back, part-whole, part-long, word-fits}
+-- The plan's operation is made, and what is left of the plan comes back.
 use borrow.Author.Needs.{needs}
+use Rattle.installer.proofs.Told.{turn-and-slot-told}
 use Rattle.installer.proofs.fill.Statement.{statement}
 use Rattle.installer.proofs.fill.Tie as tie
-
-abbrev start : tie.Else1 → tie.Start
-start d = d .before .before .before .before .before
-
-abbrev slotOf : tie.Else1 → List ℕ
-slotOf d = now (start d .args .slot)
-
-abbrev recordOf : tie.Else1 → Session
-recordOf d = start d .args .s
-
-abbrev place : tie.Else1 → ℕ
-place d = recordOf d .taken / 4 * 4
-
--- past the test: the record's facts, and all pages are erased
-abbrev ready : (d : tie.Else1) → Sound (recordOf d) (length (slotOf d)) × (eqb (recordOf d .pages) (pagesOf (length (slotOf d))) ≡ true) × (filling (recordOf d) (length (slotOf d)) ≡ true)
-ready d = passed _ _ _ _ (d .before .before .sound .ensures) (d .if1 .left)
-
-abbrev opened : tie.After-join → tie.Else1
-opened j = j .before .before .before .before
-
--- the word's place is erased where the part's test says so
-abbrev free : (c : tie.After-starts-erased) → startsErased (drop (place (opened (c .before .before .before .before .before))) (slotOf (opened (c .before .before .before .before .before)))) ≡ c .starts-erased .result
-free c = ap startsErased (sym (part-whole (place (opened (c .before .before .before .before .before))) (slotOf (opened (c .before .before .before .before .before))))) ∙ sym (c .starts-erased .ensures)
-
--- the word's place is within the slot
-room : (c : tie.Else3) → 4 ≤ length (take (length (slotOf (opened (c .before .before))) - place (opened (c .before .before))) (drop (place (opened (c .before .before))) (slotOf (opened (c .before .before)))))
-room c =
-    let d : tie.Else1 = opened (c .before .before) in
-    part-long (place d) 4 (slotOf d)
-    (word-fits (recordOf d .taken) (recordOf d .file) (length (now (start d .args .piece))) (c .before .before .before .takes .result) (length (slotOf d))
-    (c .before .before .before .takes .ensures) (c .before .if2 .left) (ready d .0 .fileMost))
-
-returns : tie.Need-returns
-returns c =
-    let e = barred _ _ _ _ (c .before .before .before .sound .ensures) (c .before .if1 .taken) in
-    (rw e (c .refused .ensures), rw e)
-
-returns-2 : tie.Need-returns-2
-returns-2 c =
-    let j : tie.After-join = c .before .before in
-    let h = ready (opened j) .2 in
-    let e = ne-eqb _ _ (c .before .if2 .taken) in
-    (rw (← j .before .takes .ensures, ← j .join .ensures, h, e) (c .took .ensures), rw (← j .before .takes .ensures, h, e))
-
-returns-3 : tie.Need-returns-3
-returns-3 c =
-    let j : tie.After-join = c .before .before .before in
-    let h = ready (opened j) .2 in
-    let e = eq-eqb _ _ (c .before .before .if2 .left) in
-    let f : inFirstWord (recordOf (opened j)) ≡ true = lt-ltb _ _ (c .before .if3 .taken) in
-    (rw (← j .before .takes .ensures, ← j .join .ensures, h, e, f) (c .took2 .ensures), rw (← j .before .takes .ensures, h, e, f))
-
-returns-4 : tie.Need-returns-4
-returns-4 c =
-    let b : tie.After-starts-erased = c .before .before in
-    let j : tie.After-join = b .before .before .before .before .before in
-    let h = ready (opened j) .2 in
-    let e = eq-eqb _ _ (b .before .before .before .before .if2 .left) in
-    let f : inFirstWord (recordOf (opened j)) ≡ false = le-ltb _ _ (b .before .before .before .if3 .left) in
-    let g = free b ∙ not-true (b .starts-erased .result) (c .before .if4 .taken) in
-    (rw (← j .before .takes .ensures, ← j .join .ensures, h, e, f, g) (c .refused2 .ensures), rw (← j .before .takes .ensures, h, e, f, g))
-
-took-requires-3 : tie.Need-took-requires-3
-took-requires-3 c κs =
-    let j : tie.After-join = c .before .before .before .before .before .before .before .before .before .before in
-    omega (arith, ready (opened j), j .before .takes .ensures)
-
-returns-5 : tie.Need-returns-5
-returns-5 c =
-    let b : tie.After-starts-erased = c .before .before .before .before .before .before in
-    let j : tie.After-join = b .before .before .before .before .before in
-    let h = ready (opened j) .2 in
-    let e = eq-eqb _ _ (b .before .before .before .before .if2 .left) in
-    let f : inFirstWord (recordOf (opened j)) ≡ false = le-ltb _ _ (b .before .before .before .if3 .left) in
-    let g = free b ∙ not-false (b .starts-erased .result) (c .before .before .before .before .before .if4 .left) in (
-      rw (← j .before .takes .ensures, ← j .join .ensures, h, e, f, g) (c .took3 .ensures),
-      rw (← j .before .takes .ensures, ← j .join .ensures, h, e, f, g)
-          (part-back (place (opened j)) 4 (slotOf (opened j)) _ (j .join .result)
-          (c .before .before .before .store-word .ensures ∙ word-whole _ _ (room (b .before .before .before)))),
-    )
 
 pub fill-spec : {M : Type 1} → statement M
 fill-spec =
@@ -105,26 +10,9 @@ fill-spec =
     (tie.spec
     (λ c κs. search needs)
     (λ c κs. search needs)
-    returns
-    (λ c κs. omega (arith, ready (c .before .before)))
     (λ c κs. search needs)
     (λ c. search needs)
-    (λ c κs. omega (arith, ready (opened (c .before)), c .before .before .takes .ensures))
-    returns-2
-    (λ c κs. omega (arith, ready (opened (c .before .before)), c .before .before .before .takes .ensures))
-    returns-3
-    (λ c. search needs)
-    (λ c. omega (arith, ready (opened (c .before .before))))
-    (λ c. omega (arith, ready (opened (c .before .before .before))))
-    (λ c. search needs)
-    (λ c κs. search needs)
-    (λ c κs. search needs)
-    (λ c. search needs)
-    returns-4
-    (λ c. omega (arith, ready (opened (c .before .before .before .before .before .before))))
-    (λ c. omega (arith, ready (opened (c .before .before .before .before .before .before))))
-    (λ c. search needs)
-    (λ c κs. search needs)
-    took-requires-3
-    (λ c. search needs)
-    returns-5)
+    (λ c.
+    let p = c .before .before .before in
+    let q = p .before .before in
+    turn-and-slot-told (rw (← q .plan-fill .ensures .0) (c .turn-of .ensures), rw (← q .plan-fill .ensures .0) (p .perform .ensures))))

@@ -1,6 +1,7 @@
 -- S1 is asked of the bytes.
 use borrow.Author.Needs.{needs}
 use Rattle.signing.specs.Digests.{firmwareDigest}
+use Rattle.signing.proofs.Laws.{tells}
 use Rattle.signing.proofs.firmware_digest.Statement.{statement}
 use Rattle.signing.proofs.firmware_digest.Tie as tie
 
@@ -11,4 +12,4 @@ firmware-digest-spec =
     (tie.spec
     (λ c κs. search needs)
     (λ c κs. search needs)
-    (λ c. rw (← c .before .vendor-magic-missing .ensures) (c .firmware-answer .ensures)))
+    (λ c. tells (rw (← c .before .vendor-magic-missing .ensures) (c .firmware-answer .ensures))))

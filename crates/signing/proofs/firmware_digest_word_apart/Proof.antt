@@ -2,7 +2,7 @@
 use borrow.Author.Needs.{needs}
 use denote.Ref.{now}
 use mathlib.Core.Path.{sym, _∙_}
-use Rattle.signing.proofs.Laws.{firmware-apart}
+use Rattle.signing.proofs.Laws.{tells, firmware-apart}
 use Rattle.signing.proofs.firmware_digest_word_apart.Statement.{statement}
 use Rattle.signing.proofs.firmware_digest_word_apart.Tie as tie
 
@@ -16,5 +16,5 @@ firmware-digest-word-apart-spec =
     (λ c κs. search needs)
     (λ c.
     let a = c .before .before .before .before .before .args in
-    (rw (c .before .starts-with .ensures) at (c .firmware-answer .ensures))
-    ∙ sym (firmware-apart (a .t1) (now (a .b)) (search needs))))
+    tells ((rw (c .before .starts-with .ensures) at (c .firmware-answer .ensures))
+    ∙ sym (firmware-apart (a .t1) (now (a .b)) (search needs)))))

@@ -2,7 +2,7 @@
 use borrow.Author.Needs.{needs}
 use mathlib.Core.Path.{refl}
 use Rattle.signing.specs.Digests.{vendorRows, vendorDigest}
-use Rattle.signing.proofs.Laws.{answers}
+use Rattle.signing.proofs.Laws.{answers, tells}
 use Rattle.signing.proofs.vendor_digest.Statement.{statement}
 use Rattle.signing.proofs.vendor_digest.Tie as tie
 
@@ -16,5 +16,5 @@ vendor-digest-spec =
     (λ c. search needs)
     (λ c. search needs)
     (λ c κs. search needs)
-    (λ c. answers vendorRows _ _ (c .before .before .before .vendor-magic-missing .ensures) (c .before .before .vendor-rows .ensures) (c .enum-told .given .1) refl)
-    (λ c. answers vendorRows _ _ (c .before .before .before .before .vendor-magic-missing .ensures) (c .before .before .before .vendor-rows .ensures) (c .before .enum-told2 .given .1) (rw (c .vendor-header-digest .ensures))))
+    (λ c. tells (answers vendorRows _ _ (c .before .before .before .vendor-magic-missing .ensures) (c .before .before .vendor-rows .ensures) (c .enum-told .given .1) refl))
+    (λ c. tells (answers vendorRows _ _ (c .before .before .before .before .vendor-magic-missing .ensures) (c .before .before .before .vendor-rows .ensures) (c .before .enum-told2 .given .1) (rw (c .vendor-header-digest .ensures)))))

@@ -4,7 +4,7 @@ use denote.Ref.{now}
 use mathlib.Core.Bool.{not}
 use mathlib.Core.Path.{refl, sym, ap, _∙_}
 use Rattle.signing.specs.Digests.{vendorRows}
-use Rattle.signing.proofs.Laws.{answers, vendor-apart}
+use Rattle.signing.proofs.Laws.{answers, tells, vendor-apart}
 use Rattle.signing.proofs.vendor_digest_word_apart.Statement.{statement}
 use Rattle.signing.proofs.vendor_digest_word_apart.Tie as tie
 
@@ -22,10 +22,10 @@ vendor-digest-word-apart-spec =
     (λ c.
     let r = c .before .before in
     let a = r .before .before .before .before .before .args in
-    answers vendorRows _ _ (ap not (r .before .starts-with .ensures)) (r .vendor-rows .ensures) (c .enum-told .given .1) refl
-    ∙ sym (vendor-apart (a .t1) (now (a .b)) (search needs)))
+    tells (answers vendorRows _ _ (ap not (r .before .starts-with .ensures)) (r .vendor-rows .ensures) (c .enum-told .given .1) refl
+    ∙ sym (vendor-apart (a .t1) (now (a .b)) (search needs))))
     (λ c.
     let r = c .before .before .before in
     let a = r .before .before .before .before .before .args in
-    answers vendorRows _ _ (ap not (r .before .starts-with .ensures)) (r .vendor-rows .ensures) (c .before .enum-told2 .given .1) (rw (c .vendor-header-digest-word-apart .ensures))
-    ∙ sym (vendor-apart (a .t1) (now (a .b)) (search needs))))
+    tells (answers vendorRows _ _ (ap not (r .before .starts-with .ensures)) (r .vendor-rows .ensures) (c .before .enum-told2 .given .1) (rw (c .vendor-header-digest-word-apart .ensures))
+    ∙ sym (vendor-apart (a .t1) (now (a .b)) (search needs)))))

@@ -1,13 +1,13 @@
 -- Each test is a row's, in the table's order; a header that is not too long has a size that can be computed.
+use native.Mathlib.Nat.{le-trans}
 use native.Mathlib.Omega.{arith}
 use Prim.Native.Nat.{_+_, _≤_}
 use mathlib.Core.Path.{sym, _∙_}
 use borrow.Author.Needs.{needs}
 use borrow.Author.Tests.{ltb-false, lt-ltb, le-ltb}
-use Rattle.octets.specs.Rounding.{roundUp}
 use Rattle.header.proofs.Rows.{passes, fails, passes-here, fails-here, ends}
 use Rattle.writer.specs.Vendor.{vendorRefusals}
-use Rattle.writer.proofs.Taken.{lengths-right, too-long-is}
+use Rattle.writer.proofs.Taken.{size-holds, lengths-right, too-long-is}
 use Rattle.writer.proofs.vendor_refusals.Statement.{statement}
 use Rattle.writer.proofs.vendor_refusals.Tie as tie
 
@@ -25,8 +25,8 @@ too-long-requires c κs =
     omega (arith, lengths-right (a .keys) (a .f .n) (a .string) (c .before .if2 .left), c .picture-start .ensures)
 
 -- past the test of 3
-short : (c : tie.Else3) → roundUp 512 (c .before .before .picture-start .result + start (c .before .before .before) .args .picture + 65) ≤ 65536
-short c = ltb-false 65536 _ (sym (c .before .too-long .ensures) ∙ c .if3 .left)
+short : (c : tie.Else3) → c .before .before .picture-start .result + start (c .before .before .before) .args .picture + 65 ≤ 65536
+short c = le-trans (size-holds _) (ltb-false 65536 _ (sym (c .before .too-long .ensures) ∙ c .if3 .left))
 
 returns-3 : tie.Need-returns-3
 unfolding vendorRefusals

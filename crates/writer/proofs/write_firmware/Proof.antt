@@ -6,6 +6,8 @@ use lib.ListN.{length}
 use Prim.Native.Nat.{ℕ}
 use borrow.Author.Needs.{needs}
 use Rattle.image.specs.Chunks.{hashesOf}
+use Rattle.header.proofs.Told.{told-beside}
+use Rattle.writer.specs.Writers.{told}
 use Rattle.writer.specs.Firmware.{firmwareHeader}
 use Rattle.writer.proofs.Taken.{FirmwareFits, firmware-fits, refused, wrote}
 use Rattle.writer.proofs.write_firmware.Statement.{statement}
@@ -25,7 +27,7 @@ returns-2 c =
     let t = k .before .before .before in
     let e = t .before .before in
     let h = t .hashes-of .ensures ∙ ap (λ (i : ℕ). hashesOf 16 i (now (start e .args .code))) (t .before .first-room .ensures) in
-    wrote (e .before .before .firmware-refusals .ensures) (e .enum-told .given .1) refl (rw h at (k .firmware-fields .ensures))
+    told-beside told (wrote (e .before .before .firmware-refusals .ensures) (e .enum-told .given .1) refl (rw h at (k .firmware-fields .ensures)))
 
 pub write-firmware-spec : {M : Type 1} → statement M
 write-firmware-spec =
@@ -33,7 +35,7 @@ write-firmware-spec =
     (tie.spec
     (λ c κs. search needs)
     (λ c. search needs)
-    (λ c. refused _ _ _ (c .before .before .before .firmware-refusals .ensures) (c .before .refusal .given .1))
+    (λ c. told-beside told (refused _ _ _ (c .before .before .before .firmware-refusals .ensures) (c .before .refusal .given .1)))
     (λ c. search needs)
     (λ c κs. search needs)
     (λ c κs. search needs)

@@ -8,6 +8,8 @@ use borrow.Author.Needs.{needs}
 use Rattle.octets.specs.Rounding.{roundUp}
 use Rattle.octets.proofs.Splice.{next}
 use Rattle.header.specs.Layout.{pictureStart}
+use Rattle.header.proofs.Told.{told-beside}
+use Rattle.writer.specs.Writers.{told}
 use Rattle.writer.specs.Vendor.{vendorSize, vendorFields}
 use Rattle.writer.proofs.Taken.{VendorFits, vendor-fits, length-front, refused, wrote}
 use Rattle.writer.proofs.write_vendor.Statement.{statement}
@@ -50,7 +52,7 @@ returns-2 c =
     z .size-of .ensures ∙ ap (λ (x : ℕ). roundUp 512 (x + length (now (a .picture)) + 65)) (p .picture-start .ensures) in
     let l = length-front (z .size-of .result) (a .f) (now (a .keys)) (now (a .string)) (ready e .keys) in
     let s : k .vendor-front .result ≡ pictureStart (a .f .n) (length (now (a .string))) = omega (arith, k .vendor-front .ensures .place) in
-    wrote (e .before .before .vendor-refusals .ensures) (e .enum-told .given .1) v (rw (s, v) at (next (k .vendor-front .ensures) (q .vendor-back .ensures)))
+    told-beside told (wrote (e .before .before .vendor-refusals .ensures) (e .enum-told .given .1) v (rw (s, v) at (next (k .vendor-front .ensures) (q .vendor-back .ensures))))
 
 pub write-vendor-spec : {M : Type 1} → statement M
 write-vendor-spec =
@@ -58,7 +60,7 @@ write-vendor-spec =
     (tie.spec
     (λ c κs. search needs)
     (λ c. search needs)
-    (λ c. refused _ _ _ (c .before .before .before .vendor-refusals .ensures) (c .before .refusal .given .1))
+    (λ c. told-beside told (refused _ _ _ (c .before .before .before .vendor-refusals .ensures) (c .before .refusal .given .1)))
     (λ c. search needs)
     (λ c. omega (arith, ready c))
     (λ c κs. search needs)

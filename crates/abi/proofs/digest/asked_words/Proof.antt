@@ -3,16 +3,16 @@ use mathlib.Core.Path.{_≡_, refl}
 use mathlib.Core.List.{[], _∷_, _++_}
 use lib.ListN.{getD}
 use borrow.Author.Needs.{needs}
+use Rattle.header.specs.Outcome.{numberOf, whereOf}
 use Rattle.header.specs.declared.Outcome.{Outcome}
 use Rattle.header.specs.declared.Outcome.the-variants.{Pass, Refused}
-use Rattle.abi.specs.Words.{outcomeNumber, outcomeWhere}
 use Rattle.abi.proofs.digest.asked_words.Statement.{statement}
 use Rattle.abi.proofs.digest.asked_words.Tie as tie
 
 -- six words one by one
 one-by-one : (v f : Outcome) →
-    outcomeNumber v ∷ getD (outcomeWhere v) 0 0 ∷ getD (outcomeWhere v) 1 0 ∷ outcomeNumber f ∷ getD (outcomeWhere f) 0 0 ∷ getD (outcomeWhere f) 1 0 ∷ []
-    ≡ outcomeNumber v ∷ (outcomeWhere v ++ (outcomeNumber f ∷ outcomeWhere f))
+    numberOf v ∷ getD (whereOf v) 0 0 ∷ getD (whereOf v) 1 0 ∷ numberOf f ∷ getD (whereOf f) 0 0 ∷ getD (whereOf f) 1 0 ∷ []
+    ≡ numberOf v ∷ (whereOf v ++ (numberOf f ∷ whereOf f))
 one-by-one Pass Pass = refl
 one-by-one Pass (Refused r) = refl
 one-by-one (Refused r) Pass = refl

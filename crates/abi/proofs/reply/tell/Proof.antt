@@ -11,9 +11,9 @@ use Rattle.abi.proofs.reply.tell.Tie as tie
 returns : tie.Need-returns
 returns c =
     let k = c .before in
-    let w = k .before .before in
-    let a = w .before .before .args in
-    (c .number-of .ensures, k .record-after .ensures ∙ ap (λ (x : List ℕ). recordAfter (a .turn .reply) x (now (a .«record»))) (w .words-of .ensures))
+    let w = k .before in
+    let a = w .before .before .before .args in
+    (c .number-of .ensures, k .record-after .ensures ∙ ap (λ (x : List ℕ). recordAfter (a .turn .reply) x (now (a .«record»))) (w .words-over .ensures))
 
 pub tell-spec : {M : Type 1} → statement M
 tell-spec =

@@ -1,4 +1,4 @@
--- `installer::theorems::done_means_landed` meets its contract: the law of `Landing.antt`.
+-- The law of `Landing.antt`.
 use Rattle.installer.proofs.Landing.{done-means-landed}
 use Rattle.installer.proofs.theorems.done_means_landed.Statement.{statement}
 use Rattle.installer.proofs.theorems.done_means_landed.Tie as tie

@@ -12,7 +12,7 @@ returns : tie.Need-returns
 returns c =
     let k = c .before .before .before in
     let image = now (k .before .before .args .image) in
-    let e = k .check-file .ensures in
+    let e = k .check-file .ensures .0 in
     let t = c .tell .ensures in
     (t .0 ∙ ap numberOf e, (t .1 .0 ∙ ap whereOf e, t .1 .1 ∙ ap (λ (x : Answer). imageWords x image) e))
 

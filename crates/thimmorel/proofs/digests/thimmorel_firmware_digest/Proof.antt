@@ -1,8 +1,9 @@
 -- What the calls ensure: the answer of the question, and what `tell` leaves.
 use denote.Ref.{now}
 use mathlib.Core.Path.{ap, _∙_}
+use Rattle.header.specs.Outcome.{numberOf, whereOf}
 use Rattle.signing.specs.declared.Digest.{Digest}
-use Rattle.abi.specs.Words.{outcomeNumber, outcomeWhere, digestBytes}
+use Rattle.abi.specs.Words.{digestBytes}
 use borrow.Author.Needs.{needs}
 use Rattle.thimmorel.proofs.digests.thimmorel_firmware_digest.Statement.{statement}
 use Rattle.thimmorel.proofs.digests.thimmorel_firmware_digest.Tie as tie
@@ -11,10 +12,10 @@ returns : tie.Need-returns
 returns c =
     let k = c .before .before .before in
     let digest = now (k .before .before .args .digest) in
-    let e = k .firmware-digest .ensures in
+    let e = k .firmware-digest .ensures .0 in
     let t = c .tell .ensures in (
-      t .0 ∙ ap (λ (x : Digest). outcomeNumber (x .outcome)) e,
-      (t .1 .0 ∙ ap (λ (x : Digest). outcomeWhere (x .outcome)) e, t .1 .1 ∙ ap (λ (x : Digest). digestBytes (x .outcome) (x .digest) digest) e),
+      t .0 ∙ ap (λ (x : Digest). numberOf (x .outcome)) e,
+      (t .1 .0 ∙ ap (λ (x : Digest). whereOf (x .outcome)) e, t .1 .1 ∙ ap (λ (x : Digest). digestBytes (x .outcome) (x .digest) digest) e),
     )
 
 pub thimmorel-firmware-digest-spec : {M : Type 1} → statement M

@@ -34,7 +34,7 @@ returns-2 c =
     let a = c .before .before .before in
     let b : tie.After-full = a .before .before in
     let e = tested b ∙ not-false _ (a .before .if1 .left) in
-    let asked = a .ask .ensures ∙ ap (λ (s : Session). askOf s (now (start b .args .slot))) (b .before .session-of .ensures) in
+    let asked = a .ask .ensures .0 ∙ ap (λ (s : Session). askOf s (now (start b .args .slot))) (b .before .session-of .ensures) in
     (rw e, (chosen (now (start b .args .answers)) e (c .tell-asked .ensures .0 ∙ ap (λ (x : Asked). askedWords x) asked), chosen (now (start b .args .digests)) e (c .tell-asked .ensures .1 ∙ ap (λ (x : Asked). askedDigests x) asked)))
 
 pub thimmorel-ask-spec : {M : Type 1} → statement M

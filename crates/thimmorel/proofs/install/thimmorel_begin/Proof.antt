@@ -9,7 +9,7 @@ use Rattle.thimmorel.proofs.install.thimmorel_begin.Tie as tie
 
 returns : tie.Need-returns
 returns c =
-    let e = c .before .before .begin .ensures in
+    let e = c .before .before .begin .ensures .0 in
     let t = c .tell-begun .ensures in
     (t .0 ∙ ap (λ (x : Turn). numberOf (x .reply)) e, t .1 ∙ ap (λ (x : Turn). wordsOf (x .session)) e)
 

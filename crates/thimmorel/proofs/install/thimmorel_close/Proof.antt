@@ -18,12 +18,12 @@ returns c =
     let a = s .before .before .before .args in
     let given = inputs (a .time) (a .m) (a .n) (a .vendor) (a .firmware) in
     let e = s .session-of .ensures in
-    let turn = k .close .ensures .0 ∙ ap (λ (x : Session). closeOf x given (now (a .slot))) e in
+    let turn = k .close .ensures .0 .0 ∙ ap (λ (x : Session). closeOf x given (now (a .slot))) e in
     let t = c .tell-closed .ensures in (
       t .0 ∙ ap (λ (x : Turn). numberOf (x .reply)) turn,
       (
         t .1 .0 ∙ ap (λ (x : Turn). wordsAfter x (now (a .«record»))) turn,
-        (k .close .ensures .1 ∙ ap (λ (x : Session). closeSlot x given (now (a .slot))) e, t .1 .1 ∙ ap (λ (x : Turn). whereOf (x .reply)) turn),
+        (k .close .ensures .0 .1 ∙ ap (λ (x : Session). closeSlot x given (now (a .slot))) e, t .1 .1 ∙ ap (λ (x : Turn). whereOf (x .reply)) turn),
       ),
     )
 

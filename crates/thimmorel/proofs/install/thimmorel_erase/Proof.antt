@@ -16,10 +16,10 @@ returns c =
     let s = k .before .before in
     let a = s .before .before .before .args in
     let e = s .session-of .ensures in
-    let turn = k .erase .ensures .0 ∙ ap (λ (x : Session). eraseOf x (now (a .slot))) e in
+    let turn = k .erase .ensures .0 .0 ∙ ap (λ (x : Session). eraseOf x (now (a .slot))) e in
     let t = c .tell .ensures in (
       t .0 ∙ ap (λ (x : Turn). numberOf (x .reply)) turn,
-      (t .1 ∙ ap (λ (x : Turn). wordsAfter x (now (a .«record»))) turn, k .erase .ensures .1 ∙ ap (λ (x : Session). eraseSlot x (now (a .slot))) e),
+      (t .1 ∙ ap (λ (x : Turn). wordsAfter x (now (a .«record»))) turn, k .erase .ensures .0 .1 ∙ ap (λ (x : Session). eraseSlot x (now (a .slot))) e),
     )
 
 pub thimmorel-erase-spec : {M : Type 1} → statement M

@@ -16,13 +16,13 @@ returns c =
     let s = k .before .before in
     let a = s .before .before .before .before .args in
     let e = s .session-of .ensures in
-    let turn = k .fill .ensures .0 ∙ ap (λ (x : Session). fillOf x (now (a .piece)) (now (a .slot))) e in
+    let turn = k .fill .ensures .0 .0 ∙ ap (λ (x : Session). fillOf x (now (a .piece)) (now (a .slot))) e in
     let t = c .tell-filled .ensures in (
       t .0 ∙ ap (λ (x : Turn). numberOf (x .reply)) turn,
       (
         t .1 .0 ∙ ap (λ (x : Turn). wordsAfter x (now (a .«record»))) turn,
         (
-          k .fill .ensures .1 ∙ ap (λ (x : Session). fillSlot x (now (a .piece)) (now (a .slot))) e,
+          k .fill .ensures .0 .1 ∙ ap (λ (x : Session). fillSlot x (now (a .piece)) (now (a .slot))) e,
           t .1 .1 ∙ ap (λ (x : Turn). takenWord (x .reply) (now (a .taken))) turn,
         ),
       ),

@@ -2,9 +2,10 @@
 use denote.Ref.{now}
 use mathlib.Core.Path.{ap, _∙_}
 use Rattle.writer.specs.Writers.{numberOf}
+use Rattle.writer.specs.Firmware.{firmwareOutput}
 use Rattle.writer.specs.declared.Firmware.{Firmware}
 use Rattle.writer.specs.declared.Written.{Written}
-use Rattle.abi.specs.Headers.{writtenWord, firmwareOutput}
+use Rattle.abi.specs.Headers.{writtenWord}
 use borrow.Author.Needs.{needs}
 use Rattle.thimmorel.proofs.writers.thimmorel_write_firmware.Statement.{statement}
 use Rattle.thimmorel.proofs.writers.thimmorel_write_firmware.Tie as tie
@@ -14,7 +15,7 @@ returns c =
     let k = c .before .before .before .before in
     let f = k .before .before in
     let a = f .before .before .before .before .before .args in
-    let w = k .write-firmware .ensures in
+    let w = k .write-firmware .ensures .0 in
     let t = c .tell .ensures in (
       t .0 ∙ ap numberOf (w .0),
       (

@@ -12,7 +12,7 @@ returns : tie.Need-returns
 returns c =
     let k = c .before .before .before .before in
     let a = k .before .before .before .before .before .before .args in
-    let w = k .write-vendor .ensures in
+    let w = k .write-vendor .ensures .0 in
     let t = c .tell .ensures in
     (t .0 ∙ ap numberOf (w .0), (w .1, t .1 ∙ ap (λ (x : Written). writtenWord x (now (a .written))) (w .0)))
 

@@ -1,0 +1,31 @@
+-- `case_rows::rows::kind` is safe and ends: each turn passes a byte of the row.
+use Prim.Native.Nat.{_≤_, _-_}
+use lib.ListN.{length}
+use borrow.Author.Needs.{needs}
+use Rattle.case_rows.proofs.rows.kind.Statement.{statement}
+use Rattle.case_rows.proofs.rows.kind.Tie as tie
+
+abbrev Inv-loop : tie.InvT-loop
+Inv-loop row i₀ i = i ≤ length row
+
+abbrev μ-loop : tie.MeasureT-loop
+μ-loop row i₀ i = length row - i
+
+pub kind-spec : {M : Type 1} → statement M
+kind-spec =
+    tie.close
+    (tie.spec
+    Inv-loop
+    μ-loop
+    (λ c. search needs)
+    (λ c κs. search needs)
+    (λ c. search needs)
+    (λ c κs. search needs)
+    (λ c κs. search needs)
+    (λ c. search needs)
+    (λ c. search needs)
+    (λ c. search needs)
+    (λ c. search needs)
+    (λ c κs. search needs)
+    (λ c κs. search needs)
+    (λ c. search needs))

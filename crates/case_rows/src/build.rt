@@ -1,0 +1,205 @@
+// Images built by hand, byte by byte, after the tables of the specification. No writer makes them, and
+// no reader of a header tells where a field stands.
+//
+// Every function is total: what would fall past the end of the buffer is dropped, and a copy that
+// would is not made.
+use crate::rows;
+use crate::rows::number;
+
+pub fn set(b: &mut [u8], at: usize, x: u8) {
+    if at < b.len() {
+        b[at] = x;
+    }
+}
+
+// The bytes from a place up to another, all x.
+pub fn fill(b: &mut [u8], from: usize, to: usize, x: u8) {
+    let mut i = from;
+    while i < to {
+        set(b, i, x);
+        i += 1;
+    }
+}
+
+// Bytes that repeat only after 251, and are never 0 and never 255: a zero byte or an erased one that
+// is read in their stead is seen.
+fn pattern(b: &mut [u8], to: usize) {
+    let mut i: usize = 0;
+    while i < to {
+        set(b, i, (1 + i % 251) as u8);
+        i += 1;
+    }
+}
+
+// The bytes of another slice, from a place on.
+pub fn copy(b: &mut [u8], from: usize, bytes: &[u8]) {
+    if b.len() < from {
+        return;
+    }
+    if b.len() - from < bytes.len() {
+        return;
+    }
+    octets::put::put_bytes(b, from, bytes);
+}
+
+// A little-endian word at an offset of the header that starts at a place.
+fn put_word(b: &mut [u8], start: u32, offset: u32, x: u32) {
+    let at = start as usize + offset as usize;
+    set(b, at, octets::put::byte0(x));
+    set(b, at + 1, octets::put::byte1(x));
+    set(b, at + 2, octets::put::byte2(x));
+    set(b, at + 3, octets::put::byte3(x));
+}
+
+// A number modulo 2^32.
+pub fn narrow(x: usize) -> u32 {
+    (x % 4294967296) as u32
+}
+
+// The places of an image: where its vendor header ends, its keys, its string from and to, its picture,
+// its code, and where the image ends.
+pub struct Layout {
+    pub v: u32,
+    pub keys: usize,
+    pub string: usize,
+    pub padding: usize,
+    pub picture: usize,
+    pub code: usize,
+    pub end: usize,
+}
+
+pub fn layout_of(row: &[u8]) -> Layout {
+    let v = number(row, rows::V, 1, 512);
+    let keys = 32 + 32 * (number(row, rows::KEYS, 1, 2) as usize);
+    let padding = keys + 1 + number(row, rows::STRING, 1, 4) as usize;
+    let code = v as usize + 1024;
+    Layout {
+        v,
+        keys,
+        string: keys + 1,
+        padding,
+        picture: (padding + 3) / 4 * 4,
+        code,
+        end: code + number(row, rows::CODE, 1, 4) as usize,
+    }
+}
+
+// The fixed fields of the vendor header: no expiry, version 9.8, m of n keys, vtrust 0xFFF6.
+fn vendor_fields(row: &[u8], v: u32, b: &mut [u8]) {
+    let m = number(row, rows::M, 1, 2) % 256;
+    let n = number(row, rows::KEYS, 1, 2) % 256;
+    copy(b, 0, b"TRZV");
+    fill(b, 4, 32, 0);
+    put_word(b, 0, 4, v);
+    put_word(b, 0, 12, 0x0809 + 65536 * m + 16777216 * n);
+    put_word(b, 0, 16, 0xFFF6);
+}
+
+// What is no pattern behind them: the string's length, its padding, and a mask of the first two keys.
+fn vendor_areas(row: &[u8], p: Layout, b: &mut [u8]) {
+    set(
+        b,
+        p.keys,
+        octets::put::byte0(number(row, rows::STRING, 1, 4)),
+    );
+    fill(b, p.padding, p.picture, 0);
+    set(b, octets::minus(p.code, 1089), 3);
+}
+
+// The firmware header behind v bytes, its hashes zero: no expiry, version 1.2.3.4, fix version 5.6.7.8,
+// and a mask of the first two keys.
+fn firmware(row: &[u8], v: u32, b: &mut [u8]) {
+    let at = v as usize;
+    let zeros = at + 24;
+    let mask = at + 959;
+    copy(
+        b,
+        at,
+        b"TRZF\x00\x04\0\0\0\0\0\0\0\0\0\0\x01\x02\x03\x04\x05\x06\x07\x08",
+    );
+    put_word(b, v, 12, number(row, rows::CODE, 1, 4));
+    fill(b, zeros, mask, 0);
+    set(b, mask, 3);
+}
+
+// The hash at k, from 0, of an image whose code stands from a place to another. Counted from the
+// image's start, chunks end at the multiples of 131,072, since chunk 1 has room for 131,072 - 1,024 - v
+// bytes.
+fn hash(b: &mut [u8], code: usize, end: usize, k: u32) {
+    let start = 131072 * (k as usize);
+    let at = octets::minus(code, 992) % 4294967296 + 32 * (k as usize);
+    let from = if start < code { code } else { start };
+    let to = octets::minus(end, octets::minus(end, start + 131072));
+    if from < to {
+        let digest = blake2s::blake2s(octets::part(b, from, to));
+        copy(b, at, &digest);
+    }
+}
+
+// The first hashes, so many as the row says, otherwise all.
+fn hashes(row: &[u8], code: usize, end: usize, b: &mut [u8]) {
+    let count = number(row, rows::HASHED, 1, 16);
+    let mut k: u32 = 0;
+    while k < count {
+        hash(b, code, end, k);
+        k += 1;
+    }
+}
+
+// A byte that the row changes.
+fn edit_byte(row: &[u8], word: usize, b: &mut [u8]) {
+    let at = number(row, word, 1, 4294967295) as usize;
+    set(b, at, octets::put::byte0(number(row, word, 2, 0)));
+}
+
+// A word that the row changes.
+fn edit_word(row: &[u8], b: &mut [u8]) {
+    let at = number(row, rows::WORD, 1, 4294967295);
+    put_word(b, at, 0, number(row, rows::WORD, 2, 0));
+}
+
+// A hash that becomes BLAKE2s of nothing.
+fn edit_hash(row: &[u8], v: u32, b: &mut [u8]) {
+    let at = v as usize + 32 * (number(row, rows::NOTHING, 1, 4294967295) as usize);
+    let digest = blake2s::blake2s(b"");
+    copy(b, at, &digest);
+}
+
+// All that the row changes.
+fn edit(row: &[u8], v: u32, b: &mut [u8]) {
+    edit_hash(row, v, b);
+    edit_word(row, b);
+    edit_byte(row, rows::BYTE, b);
+    edit_byte(row, rows::AND, b);
+}
+
+fn headers(row: &[u8], p: Layout, b: &mut [u8]) {
+    vendor_fields(row, p.v, b);
+    vendor_areas(row, p, b);
+    firmware(row, p.v, b);
+    hashes(row, p.code, p.end, b);
+}
+
+// How many bytes a row lends: so many as it says, otherwise those of the image, and not fewer than
+// `least`.
+fn lent_of(row: &[u8], end: usize, least: usize) -> usize {
+    let more = std::num::wrapping_add_usize(end, octets::minus(least, end));
+    number(row, rows::LENT, 1, narrow(more)) as usize
+}
+
+// The image of a row, at the start of a buffer. The bytes behind it are erased, a page or as many as
+// are lent.
+pub fn build(row: &[u8], b: &mut [u8]) {
+    let p = layout_of(row);
+    pattern(b, p.end);
+    headers(row, p, b);
+    fill(b, p.end, 8192, 255);
+    fill(b, p.end, lent_of(row, p.end, 8192), 255);
+    edit(row, p.v, b);
+}
+
+// What a row lends of the buffer.
+pub fn lent<'a>(row: &[u8], least: usize, b: &'a [u8]) -> &'a [u8] {
+    let p = layout_of(row);
+    octets::part(b, 0, lent_of(row, p.end, least))
+}
