@@ -1,7 +1,7 @@
 /*
  * The interface of libthimmorel.a, for C99 and C++. This file documents each call in full.
  *
- * Each call is proved equal to a definition, in crates/thimmorel/specs and in the specs of the
+ * Each call is proved equal to a definition, in crates/abi/specs and in the specs of the
  * crates below it. The comments here retell these definitions, and nothing checks that they do.
  * docs/PROMISES.md lists the statements that are proved, and docs/TRUST.md what is assumed.
  */
