@@ -3,7 +3,11 @@
 //
 // A question asks for the shape of the headers alone. It looks at no time, no policy, no signer, no
 // verdict and no code. Where the shape is wrong, the first failing step's refusal comes back and no
-// digest: 32 zeros. Each is also answered with the first word of the bytes given apart.
+// digest: 32 zeros. Each is also answered with the first word of the bytes given apart. `places` tells
+// what a chip needs beside the digest.
+pub mod places;
+pub mod theorems;
+
 use blake2s::blake2s_word_apart;
 use blake2s::blake2s_zero_tailed;
 use header::Outcome;
