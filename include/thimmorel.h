@@ -9,11 +9,7 @@
 #ifndef THIMMOREL_H
 #define THIMMOREL_H
 
-#include <stddef.h>
 #include <stdint.h>
-#ifndef __cplusplus
-#include <stdbool.h>
-#endif
 
 #ifdef __cplusplus
 extern "C" {
@@ -31,7 +27,8 @@ extern "C" {
  * ## Linking
  *
  * `rt staticlib thimmorel` writes `target/staticlib/libthimmorel.a`, for x86-64 Linux. A program
- * includes this header and links the archive.
+ * includes this header and links the archive. The header is the same for 64-bit and 32-bit
+ * machines: every length is a `uint64_t`, and every other number a `uint32_t`.
  *
  * ## Memory
  *
@@ -45,23 +42,23 @@ extern "C" {
  *
  *  - A slice of length 0 may have any pointer, including `NULL`. Nothing is read through it.
  *
- *  - An array of fixed size is passed as a pointer to its first element. The pointer must not be
- *    `NULL`.
+ *  - A struct or an array of fixed size is passed by a pointer, which must not be `NULL`. Any words
+ *    in it are allowed and get an answer.
  *
- *  - Bytes need no alignment. Arrays of `uint32_t` and `size_t` are aligned as C requires.
+ *  - Bytes need no alignment. Structs and arrays are aligned as C requires.
  *
  *  - The buffers of one call must not overlap, and nothing else may write to them during the call.
  *
  * ## Answers
  *
- * A call that can refuse returns a number: 0 is success, and `enum thimmorel_number` lists the
- * rest. A refused call changes no slot byte, no record and no output, with three exceptions:
- * `where` is always written, a refused thimmorel_begin() writes its record, and a thimmorel_close()
- * that the check refuses ends the session.
+ * A call that can refuse returns a number: 0 is success, and `enum thimmorel_error` lists the rest.
+ * Some calls tell more than a number: where a check found the fault (`struct thimmorel_answer`), or
+ * which operation of the flash is next (`struct thimmorel_operation`). These are always written,
+ * and are part of the answer.
  *
- * `where` is two words that tell where a check found the fault: the part, which is one of
- * `enum thimmorel_part`, and the chunk, which is 0 except with the numbers 14 and 15. Both are 0 on
- * success.
+ * Everything else that a call writes is an output. A refused call changes no slot byte, no record
+ * and no output, with two exceptions: a refused thimmorel_begin() writes its record, and a close
+ * that the check refuses ends the session.
  *
  * ## The image
  *
@@ -77,7 +74,7 @@ extern "C" {
  * | 8 | 4 | expiry; 0 means never |
  * | 12, 13 | 1 each | major and minor version |
  * | 14, 15 | 1 each | vsig_m and vsig_n: at least vsig_m of the vsig_n keys sign firmware |
- * | 16 | 2 | vtrust, see thimmorel_trust() |
+ * | 16 | 2 | vtrust, see thimmorel_read_trust() |
  * | 18 | 14 | zero |
  * | 32 | 32 * vsig_n | keys |
  * | then | 1 | length of the string |
@@ -108,65 +105,257 @@ extern "C" {
  * chunk k, or all zero if chunk k holds none.
  */
 
+/** The version of this interface. */
+#define THIMMOREL_VERSION "0.2.0"
+#define THIMMOREL_VERSION_MAJOR 0
+#define THIMMOREL_VERSION_MINOR 2
+#define THIMMOREL_VERSION_PATCH 0
+
+/** Sizes in bytes. */
+#define THIMMOREL_DIGEST_SIZE 32u
+#define THIMMOREL_KEY_SIZE 32u
+#define THIMMOREL_SIG_SIZE 64u
+#define THIMMOREL_FIRMWARE_HEADER_SIZE 1024u
+#define THIMMOREL_VENDOR_HEADER_MIN 512u
+#define THIMMOREL_VENDOR_HEADER_MAX 65536u
+#define THIMMOREL_PAGE_SIZE 4096u
+#define THIMMOREL_WORD_SIZE 4u
+#define THIMMOREL_SLOT_MAX 2097152u
+#define THIMMOREL_FILE_MIN 1540u
+
+/** The number of words in a record. */
+#define THIMMOREL_RECORD_WORDS 16u
+
+/** A verdict that is yes. Any other word is no. */
+#define THIMMOREL_YES 1u
+
+/** A firmware version as one word, as the check tells it and the writer takes it. */
+#define THIMMOREL_FIRMWARE_VERSION(major, minor, patch, build) \
+	((uint32_t)(major) | (uint32_t)(minor) << 8 | (uint32_t)(patch) << 16 | (uint32_t)(build) << 24)
+
 /** \brief What the calls return. Each number has one meaning in all calls. */
-enum thimmorel_number {
-	/** Success: accepted, answered, written, or Done. */
+enum thimmorel_error {
+	/** Success. */
 	THIMMOREL_OK = 0,
 	/** The bytes do not start with `TRZV`. */
-	THIMMOREL_NO_VENDOR_MAGIC = 1,
+	THIMMOREL_ERROR_VENDOR_MAGIC = 1,
 	/** The bytes end before this part of the image does. */
-	THIMMOREL_TOO_SHORT = 2,
+	THIMMOREL_ERROR_TOO_SHORT = 2,
 	/** The length of the vendor header is not a multiple of 512 from 512 to 65,536. */
-	THIMMOREL_VENDOR_LENGTH = 3,
+	THIMMOREL_ERROR_VENDOR_LENGTH = 3,
 	/** The vendor header's key numbers are not 1 <= vsig_m <= vsig_n <= 8. */
-	THIMMOREL_VENDOR_KEYS = 4,
+	THIMMOREL_ERROR_VENDOR_KEYS = 4,
 	/** The vendor string leaves no room for the signature. */
-	THIMMOREL_STRING_TOO_LONG = 5,
+	THIMMOREL_ERROR_STRING_LENGTH = 5,
 	/** A byte of the header that must be zero is not. */
-	THIMMOREL_NOT_ZERO = 6,
+	THIMMOREL_ERROR_NOT_ZERO = 6,
 	/** The time is later than the header's expiry. */
-	THIMMOREL_EXPIRED = 7,
+	THIMMOREL_ERROR_EXPIRED = 7,
 	/** The sigmask names a key index of n or above, or fewer than m keys. */
-	THIMMOREL_SIGMASK = 8,
+	THIMMOREL_ERROR_SIGMASK = 8,
 	/** The verdict on the header's signature is no. */
-	THIMMOREL_NOT_SIGNED = 9,
+	THIMMOREL_ERROR_VERDICT = 9,
 	/** The firmware header does not start with `TRZF`. */
-	THIMMOREL_NO_FIRMWARE_MAGIC = 10,
+	THIMMOREL_ERROR_FIRMWARE_MAGIC = 10,
 	/** The firmware header does not give its length as 1,024. */
-	THIMMOREL_FIRMWARE_LENGTH = 11,
+	THIMMOREL_ERROR_FIRMWARE_LENGTH = 11,
 	/** The code length is 0, not a multiple of 4, or more than an image holds. */
-	THIMMOREL_CODE_LENGTH = 12,
+	THIMMOREL_ERROR_CODE_LENGTH = 12,
 	/** Bytes follow the code: any byte in a file, a byte other than 255 in a slot. */
-	THIMMOREL_BYTES_FOLLOW = 13,
+	THIMMOREL_ERROR_BYTES_FOLLOW = 13,
 	/** The code in a chunk does not have the digest that the firmware header gives. */
-	THIMMOREL_CHUNK_DIGEST = 14,
+	THIMMOREL_ERROR_CHUNK_HASH = 14,
 	/** The hash of a chunk without code is not all zero. */
-	THIMMOREL_UNUSED_HASH = 15,
+	THIMMOREL_ERROR_UNUSED_HASH = 15,
 	/** The caller's key policy is not 1 <= m <= n <= 8. */
-	THIMMOREL_POLICY = 16,
+	THIMMOREL_ERROR_POLICY = 16,
 	/** Chunk 1 has no room for code. */
-	THIMMOREL_NO_ROOM = 17,
+	THIMMOREL_ERROR_NO_ROOM = 17,
 	/** The file length is not a multiple of 4, is under 1,540, or is above the slot's length. */
-	THIMMOREL_FILE_LENGTH = 18,
+	THIMMOREL_ERROR_FILE_LENGTH = 18,
 	/** The session is over or not ready for this call, the slot's length is not that at begin, or
 	    the record is inconsistent. */
-	THIMMOREL_WRONG_PHASE = 19,
+	THIMMOREL_ERROR_TURN = 19,
 	/** The keys are not 32 * n bytes, or the string is over 255 bytes. */
-	THIMMOREL_WRITER_LENGTHS = 20,
+	THIMMOREL_ERROR_FIELD_LENGTH = 20,
 	/** The output is shorter than the header. */
-	THIMMOREL_OUTPUT_TOO_SHORT = 21,
+	THIMMOREL_ERROR_OUTPUT_LENGTH = 21,
 	/** The slot's length is not a multiple of 4,096 from 4,096 to 2,097,152. */
-	THIMMOREL_SLOT_LENGTH = 22,
+	THIMMOREL_ERROR_SLOT_LENGTH = 22,
 	/** The slot's word that would be overwritten is not erased. */
-	THIMMOREL_NOT_ERASED = 23
+	THIMMOREL_ERROR_NOT_ERASED = 23,
+	/** The file's first word does not stand in the slot. */
+	THIMMOREL_ERROR_NOT_LANDED = 27,
+	/** A number does not fit its field of the header. */
+	THIMMOREL_ERROR_FIELD_RANGE = 28
 };
 
-/** \brief The part of an image that a check's refusal is about: the first word of `where`. */
+/** \brief The part of an image that a check's refusal is about. */
 enum thimmorel_part {
-	THIMMOREL_NO_PART = 0,
-	THIMMOREL_VENDOR_HEADER = 1,
-	THIMMOREL_FIRMWARE_HEADER = 2,
-	THIMMOREL_CODE = 3
+	THIMMOREL_PART_NONE = 0,
+	THIMMOREL_PART_VENDOR_HEADER = 1,
+	THIMMOREL_PART_FIRMWARE_HEADER = 2,
+	THIMMOREL_PART_CODE = 3
+};
+
+/** \brief An operation of the flash. */
+enum thimmorel_operation_kind {
+	THIMMOREL_OPERATION_NOTHING = 0,
+	THIMMOREL_OPERATION_ERASE_PAGE = 1,
+	THIMMOREL_OPERATION_STORE_WORD = 2
+};
+
+/** \brief What a check is given besides the bytes. */
+struct thimmorel_inputs {
+	/** The current time. */
+	uint32_t time;
+	/** How many keys must have signed the vendor header. */
+	uint32_t m;
+	/** How many keys there are for the vendor header. */
+	uint32_t n;
+	/** The chip's verdict on the vendor header's signature: 1 is yes, any other word no. */
+	uint32_t vendor_verdict;
+	/** The chip's verdict on the firmware header's signature: 1 is yes, any other word no. */
+	uint32_t firmware_verdict;
+};
+
+/** \brief The answer of a check or of a digest question. It is always written. */
+struct thimmorel_answer {
+	/** What the call returns: one of `enum thimmorel_error`. */
+	uint32_t number;
+	/** One of `enum thimmorel_part`. It is 0 on success. */
+	uint32_t part;
+	/** The chunk, counted from 1, with the numbers 14 and 15. It is 0 otherwise. */
+	uint32_t chunk;
+};
+
+/** \brief What an acceptance tells. */
+struct thimmorel_image {
+	/** The length v of the vendor header. */
+	uint32_t vendor_length;
+	/** The length of the code. */
+	uint32_t code_length;
+	/** The firmware's version, see THIMMOREL_FIRMWARE_VERSION(). */
+	uint32_t version;
+	/** The firmware's fix version, likewise. */
+	uint32_t fix_version;
+};
+
+/** \brief A place in the bytes that were passed: where it starts, and how many bytes it has. */
+struct thimmorel_span {
+	uint64_t start;
+	uint64_t length;
+};
+
+/** \brief The places of an image's parts. */
+struct thimmorel_parts {
+	struct thimmorel_span string;
+	/** The picture area, up to the sigmask. */
+	struct thimmorel_span picture;
+	struct thimmorel_span code;
+};
+
+/** \brief What the chip needs to verify a header's signature, beside the digest. */
+struct thimmorel_signature {
+	/** 1 byte. */
+	struct thimmorel_span sigmask;
+	/** 64 bytes. */
+	struct thimmorel_span sig;
+	/** For the firmware header the vendor's keys, 32 bytes each. For the vendor header empty: its
+	    keys are the caller's own. */
+	struct thimmorel_span keys;
+	/** How many of these keys must sign, and how many there are. For the vendor header both are 0:
+	    its policy is the caller's own. */
+	uint64_t m;
+	uint64_t n;
+};
+
+/** \brief How far the vendor is trusted. Each feature is 1 if it is active, and 0 if not. */
+struct thimmorel_trust {
+	/** How many seconds to wait. */
+	uint32_t seconds;
+	uint32_t red_background;
+	uint32_t click_needed;
+	uint32_t string_shown;
+	uint32_t secret_allowed;
+};
+
+/** \brief The numbers of a vendor header. */
+struct thimmorel_vendor_numbers {
+	/** The last time at which the header is valid, or 0 for no expiry. */
+	uint32_t expiry;
+	/** Major and minor version, each at most 255. */
+	uint32_t major;
+	uint32_t minor;
+	/** vsig_m and vsig_n: how many of how many keys must sign firmware. */
+	uint32_t m;
+	uint32_t n;
+	/** See thimmorel_read_trust(). At most 65,535. */
+	uint32_t vtrust;
+	/** Which keys signed this header. At most 255. */
+	uint32_t sigmask;
+};
+
+/** \brief The numbers of a firmware header. */
+struct thimmorel_firmware_numbers {
+	/** The length v of the vendor header that precedes this one. */
+	uint32_t vendor_length;
+	/** The last time at which the header is valid, or 0 for no expiry. */
+	uint32_t expiry;
+	/** The version, see THIMMOREL_FIRMWARE_VERSION(). */
+	uint32_t version;
+	/** The fix version, likewise. */
+	uint32_t fix_version;
+	/** Which of the vendor's keys signed this header. At most 255. */
+	uint32_t sigmask;
+};
+
+/** \brief The record of an install. See "Installing" below. */
+struct thimmorel_record {
+	/** 1 if the session is open, 2 if its file is accepted and not confirmed yet, 0 if it is over. */
+	uint32_t phase;
+	uint32_t slot_length;
+	uint32_t file_length;
+	/** Pages erased, of slot_length / 4,096. */
+	uint32_t pages_erased;
+	/** Bytes taken, of file_length. */
+	uint32_t bytes_taken;
+	/** Operations of the flash since begin. At Done they are slot_length / 4,096 + file_length / 4. */
+	uint32_t operations;
+	/** The first word of the file once it is complete, its first byte in the low 8 bits. */
+	uint32_t first_word;
+	/** The bytes taken of the word in progress, likewise. */
+	uint32_t current_word;
+	/** Begin writes 0, every other call leaves them, and no call reads them. */
+	uint32_t reserved[8];
+};
+
+/** \brief The operation of the flash that a call hands back. It is always written. */
+struct thimmorel_operation {
+	/** One of `enum thimmorel_operation_kind`. */
+	uint32_t kind;
+	/** Where the page or the word starts, in bytes from the slot's start. */
+	uint32_t offset;
+	/** The word to be stored, its first byte in the low 8 bits. It is 0 for the other kinds. */
+	uint32_t word;
+};
+
+/** \brief Two answers, one for each header. */
+struct thimmorel_answers {
+	struct thimmorel_answer vendor;
+	struct thimmorel_answer firmware;
+};
+
+/** \brief Two digests, one for each header. */
+struct thimmorel_digests {
+	uint8_t vendor[32];
+	uint8_t firmware[32];
+};
+
+/** \brief What the chip needs for each header. */
+struct thimmorel_signatures {
+	struct thimmorel_signature vendor;
+	struct thimmorel_signature firmware;
 };
 
 /**
@@ -180,7 +369,7 @@ enum thimmorel_part {
  * \param length   the number of bytes.
  * \param digest   the buffer that receives the 32 bytes of the digest.
  */
-void thimmorel_digest(const uint8_t *bytes, size_t length, uint8_t digest[32]);
+void thimmorel_digest(const uint8_t *bytes, uint64_t length, uint8_t digest[32]);
 
 /**
  * \brief Check an image that is a file: nothing may follow the code.
@@ -199,7 +388,7 @@ void thimmorel_digest(const uint8_t *bytes, size_t length, uint8_t digest[32]);
  * | S8 | bytes 18 to 31, or those between string and picture, are not all zero | 6 | 1 |
  * | S9 | the vendor header's expiry is not 0, and `time` is above it | 7 | 1 |
  * | S10 | the sigmask names a key index of n or above, or fewer than m keys | 8 | 1 |
- * | S11 | `vendor` is false | 9 | 1 |
+ * | S11 | `vendor_verdict` is not 1 | 9 | 1 |
  * | S12 | the bytes end before the firmware header does | 2 | 2 |
  * | S13 | the firmware header does not start with `TRZF` | 10 | 2 |
  * | S14 | it does not give its length as 1,024 | 11 | 2 |
@@ -208,7 +397,7 @@ void thimmorel_digest(const uint8_t *bytes, size_t length, uint8_t digest[32]);
  * | S17 | its bytes 24 to 31, or 544 to 958, are not all zero | 6 | 2 |
  * | S18 | its expiry is not 0, and `time` is above it | 7 | 2 |
  * | S19 | its sigmask names a key index of vsig_n or above, or fewer than vsig_m keys | 8 | 2 |
- * | S20 | `firmware` is false | 9 | 2 |
+ * | S20 | `firmware_verdict` is not 1 | 9 | 2 |
  * | S21 | the bytes end before the code does | 2 | 3 |
  * | S22 | bytes follow the code | 13 | 3 |
  * | S23 | the lowest chunk with a wrong hash holds code | 14 | 3 |
@@ -216,20 +405,16 @@ void thimmorel_digest(const uint8_t *bytes, size_t length, uint8_t digest[32]);
  *
  * The bytes are not changed.
  *
- * \param bytes      the file.
- * \param length     the number of bytes.
- * \param time       the current time.
- * \param m          how many keys must have signed the vendor header.
- * \param n          how many keys there are for the vendor header.
- * \param vendor     the chip's verdict on the vendor header's signature.
- * \param firmware   the chip's verdict on the firmware header's signature.
- * \param where      always written: the part and the chunk of a refusal, or 0 and 0.
- * \param image      written only on success: v, the code length, the version and the fix version.
- *                   A version is major + 256 * minor + 65,536 * patch + 16,777,216 * build.
+ * \param bytes    the file.
+ * \param length   the number of bytes.
+ * \param inputs   the time, the key policy m of n for the vendor header, and the chip's verdicts.
+ * \param answer   always written: the number, the part and the chunk.
+ * \param image    written only on success: what the image's headers say.
  * \return 0 if the image is accepted, or the number of the step that fails.
  */
-uint32_t thimmorel_check_file(const uint8_t *bytes, size_t length, uint32_t time, uint32_t m,
-	uint32_t n, bool vendor, bool firmware, uint32_t where[2], uint32_t image[4]);
+uint32_t thimmorel_check_file(const uint8_t *bytes, uint64_t length,
+	const struct thimmorel_inputs *inputs, struct thimmorel_answer *answer,
+	struct thimmorel_image *image);
 
 /**
  * \brief Check an image that is in a slot: the bytes after the code must be erased.
@@ -238,16 +423,15 @@ uint32_t thimmorel_check_file(const uint8_t *bytes, size_t length, uint32_t time
  * of thimmorel_check_file(), except for S22: it fails if a byte after the code is not 255. The
  * check looks at all of the bytes, and does not test the slot's length.
  */
-uint32_t thimmorel_check_slot(const uint8_t *bytes, size_t length, uint32_t time, uint32_t m,
-	uint32_t n, bool vendor, bool firmware, uint32_t where[2], uint32_t image[4]);
+uint32_t thimmorel_check_slot(const uint8_t *bytes, uint64_t length,
+	const struct thimmorel_inputs *inputs, struct thimmorel_answer *answer,
+	struct thimmorel_image *image);
 
 /**
  * \brief Tell where the parts of a checked image are.
  *
- * The call follows a check of the same bytes and takes its number. After a refusal all six words
- * are 0. After an acceptance they are the start and the length of the string, of the picture area
- * and of the code. A start is an offset from the first byte. The picture area runs up to the
- * sigmask.
+ * The call follows a check of the same bytes and takes its number. After a refusal all places are
+ * empty, and start at 0. The picture area runs up to the sigmask.
  *
  * After a refusal, pass its number and not 0: such bytes have no parts. Whatever is passed, no part
  * reaches past the end of the bytes.
@@ -255,10 +439,10 @@ uint32_t thimmorel_check_slot(const uint8_t *bytes, size_t length, uint32_t time
  * \param bytes    the bytes that were checked.
  * \param length   the number of bytes.
  * \param number   what the check returned.
- * \param parts    always written: string start, string length, picture area start, its length,
- *                 code start, code length.
+ * \param parts    always written: the string, the picture area and the code.
  */
-void thimmorel_parts(const uint8_t *bytes, size_t length, uint32_t number, size_t parts[6]);
+void thimmorel_find_parts(const uint8_t *bytes, uint64_t length, uint32_t number,
+	struct thimmorel_parts *parts);
 
 /**
  * \brief Compute the digest that the vendor header's signature signs.
@@ -270,12 +454,12 @@ void thimmorel_parts(const uint8_t *bytes, size_t length, uint32_t number, size_
  *
  * \param bytes    the image, or its start.
  * \param length   the number of bytes.
- * \param where    always written: the part of a refusal, or 0; then 0, for there is no chunk.
+ * \param answer   always written: the number and the part. The chunk is 0.
  * \param digest   written only on success: the 32 bytes of the digest.
  * \return 0, or the number of the step that fails.
  */
-uint32_t thimmorel_vendor_digest(const uint8_t *bytes, size_t length, uint32_t where[2],
-	uint8_t digest[32]);
+uint32_t thimmorel_vendor_digest(const uint8_t *bytes, uint64_t length,
+	struct thimmorel_answer *answer, uint8_t digest[32]);
 
 /**
  * \brief Compute the digest that the firmware header's signature signs.
@@ -286,12 +470,40 @@ uint32_t thimmorel_vendor_digest(const uint8_t *bytes, size_t length, uint32_t w
  *
  * \param bytes    the image, or its start.
  * \param length   the number of bytes.
- * \param where    always written: the part of a refusal, or 0; then 0, for there is no chunk.
+ * \param answer   always written: the number and the part. The chunk is 0.
  * \param digest   written only on success: the 32 bytes of the digest.
  * \return 0, or the number of the step that fails.
  */
-uint32_t thimmorel_firmware_digest(const uint8_t *bytes, size_t length, uint32_t where[2],
-	uint8_t digest[32]);
+uint32_t thimmorel_firmware_digest(const uint8_t *bytes, uint64_t length,
+	struct thimmorel_answer *answer, uint8_t digest[32]);
+
+/**
+ * \brief Tell where the vendor header's sigmask and signature are.
+ *
+ * Where thimmorel_vendor_digest() answers 0 for these bytes, sigmask and signature lie in them.
+ * Otherwise all places are empty, and start at 0. Keys, m and n are empty and 0: the keys that
+ * sign a vendor header, and how many must, are the caller's own.
+ *
+ * \param bytes       the image, or its start.
+ * \param length      the number of bytes.
+ * \param signature   always written.
+ */
+void thimmorel_find_vendor_signature(const uint8_t *bytes, uint64_t length,
+	struct thimmorel_signature *signature);
+
+/**
+ * \brief Tell where the firmware header's sigmask and signature are, and the keys that sign it.
+ *
+ * Where thimmorel_firmware_digest() answers 0 for these bytes, sigmask, signature and keys lie in
+ * them, and m of these n keys must sign: 1 <= m <= n <= 8. Otherwise all places are empty, and
+ * start at 0, and m and n are 0.
+ *
+ * \param bytes       the image, or its start.
+ * \param length      the number of bytes.
+ * \param signature   always written.
+ */
+void thimmorel_find_firmware_signature(const uint8_t *bytes, uint64_t length,
+	struct thimmorel_signature *signature);
 
 /**
  * \brief Read how far the vendor is trusted.
@@ -303,16 +515,17 @@ uint32_t thimmorel_firmware_digest(const uint8_t *bytes, size_t length, uint32_t
  *
  * \param bytes    the image, or its start.
  * \param length   the number of bytes.
- * \param trust    always written: the seconds, then 1 or 0 for red background, click needed, string
- *                 shown and secret allowed.
+ * \param trust    always written.
  */
-void thimmorel_trust(const uint8_t *bytes, size_t length, uint32_t trust[5]);
+void thimmorel_read_trust(const uint8_t *bytes, uint64_t length, struct thimmorel_trust *trust);
 
 /**
  * \brief Write a vendor header.
  *
  * Its length v is the least multiple of 512 that holds the fields; zeros follow the picture up to
  * the sigmask. The sigmask is not checked. Refusals, in order:
+ *
+ *  - 28 if major, minor or sigmask is above 255, or vtrust above 65,535;
  *
  *  - 4 if not 1 <= m <= n <= 8;
  *
@@ -324,13 +537,7 @@ void thimmorel_trust(const uint8_t *bytes, size_t length, uint32_t trust[5]);
  *
  * A whole picture area, given as the picture, gives the same v again.
  *
- * \param expiry           the last time at which the header is valid, or 0 for no expiry.
- * \param major            major version.
- * \param minor            minor version.
- * \param m                vsig_m, how many keys must sign firmware.
- * \param n                vsig_n, how many keys there are.
- * \param vtrust           see thimmorel_trust().
- * \param sigmask          which keys signed this header.
+ * \param numbers          the numbers of the header.
  * \param keys             the keys, one after the other.
  * \param keys_length      the number of their bytes.
  * \param string           the string.
@@ -344,29 +551,27 @@ void thimmorel_trust(const uint8_t *bytes, size_t length, uint32_t trust[5]);
  * \param written          written only on success: v.
  * \return 0, or the refusal.
  */
-uint32_t thimmorel_write_vendor(uint32_t expiry, uint8_t major, uint8_t minor, uint8_t m,
-	uint8_t n, uint16_t vtrust, uint8_t sigmask, const uint8_t *keys, size_t keys_length,
-	const uint8_t *string, size_t string_length, const uint8_t *picture, size_t picture_length,
-	const uint8_t sig[64], uint8_t *out, size_t out_length, uint32_t written[1]);
+uint32_t thimmorel_write_vendor(const struct thimmorel_vendor_numbers *numbers,
+	const uint8_t *keys, uint64_t keys_length, const uint8_t *string, uint64_t string_length,
+	const uint8_t *picture, uint64_t picture_length, const uint8_t sig[64], uint8_t *out,
+	uint64_t out_length, uint32_t *written);
 
 /**
  * \brief Write a firmware header for code that will follow it.
  *
  * The sigmask is not checked. Refusals, in order:
  *
- *  - 3 if v is not a multiple of 512 from 512 to 65,536;
+ *  - 28 if sigmask is above 255;
  *
- *  - 12 if the code's length is 0, not a multiple of 4, or above 2,097,152 - 1,024 - v;
+ *  - 3 if vendor_length is not a multiple of 512 from 512 to 65,536;
+ *
+ *  - 12 if the code's length is 0, not a multiple of 4, or above 2,097,152 - 1,024 - vendor_length;
  *
  *  - 21 if the output is shorter than 1,024 bytes.
  *
- * \param v             the length of the vendor header that will precede this one.
- * \param expiry        the last time at which the header is valid, or 0 for no expiry.
- * \param version       major, minor, patch and build.
- * \param fix           the fix version, likewise.
+ * \param numbers       the numbers of the header.
  * \param code          the code. It is not changed.
  * \param code_length   the number of its bytes.
- * \param sigmask       which of the vendor's keys signed this header.
  * \param sig           the signature of this header.
  * \param out           the output. On success its first 1,024 bytes are the header, and the bytes
  *                      past them are unchanged. After a refusal all are unchanged.
@@ -374,46 +579,60 @@ uint32_t thimmorel_write_vendor(uint32_t expiry, uint8_t major, uint8_t minor, u
  * \param written       written only on success: 1,024.
  * \return 0, or the refusal.
  */
-uint32_t thimmorel_write_firmware(uint32_t v, uint32_t expiry, const uint8_t version[4],
-	const uint8_t fix[4], const uint8_t *code, size_t code_length, uint8_t sigmask,
-	const uint8_t sig[64], uint8_t *out, size_t out_length, uint32_t written[1]);
+uint32_t thimmorel_write_firmware(const struct thimmorel_firmware_numbers *numbers,
+	const uint8_t *code, uint64_t code_length, const uint8_t sig[64], uint8_t *out,
+	uint64_t out_length, uint32_t *written);
 
 /**
  * # Installing
  *
- * A slot is memory that the caller owns: a multiple of 4,096 bytes, from 4,096 to 2,097,152. The
- * calls change it by two operations: they erase one page of 4,096 bytes to 255, or store one
- * aligned word of 4 bytes over an erased one. Each call makes at most one operation, so a power cut
- * falls between two calls if an operation happens wholly or not at all.
+ * A slot is a multiple of 4,096 bytes, from 4,096 to 2,097,152. The flash has two operations: erase
+ * one page of 4,096 bytes to 255, and store one aligned word of 4 bytes over an erased one. Each
+ * call makes at most one operation, or hands at most one back, so a power cut falls between two
+ * calls if an operation happens wholly or not at all.
  *
- * A session is thimmorel_begin(), one thimmorel_erase() for each page of the slot,
- * thimmorel_fill() until all bytes of the file are taken, thimmorel_ask() if the digests are
- * wanted, and thimmorel_close(). The first word of the file stays in the record until the close
- * stores it. From the first erase until then, the slot starts with an erased word, and
- * thimmorel_check_slot() refuses it with 1. Once a close has answered 0, the slot holds the file,
- * and the bytes after it are erased. After a power cut, begin again.
+ * A session has these steps:
+ *
+ *  1. thimmorel_begin(), once.
+ *
+ *  2. Erase, once for each page of the slot.
+ *
+ *  3. Fill, until all bytes of the file are taken.
+ *
+ *  4. thimmorel_ask() for the digests and thimmorel_find_signatures() for what else the chip needs;
+ *     the chip then gives its verdicts.
+ *
+ *  5. Close, with the verdicts.
+ *
+ * The first word of the file stays in the record until it is stored, as the last operation of all.
+ * From the first erase until then, the slot starts with an erased word, and thimmorel_check_slot()
+ * refuses it with 1. Done means that the slot holds the file, that the bytes after it are erased,
+ * and that thimmorel_check_slot() accepts it with the same inputs.
+ *
+ * ## Two ways to write the slot
+ *
+ * *A slot in memory*: thimmorel_erase(), thimmorel_fill() and thimmorel_close() write the slot
+ * themselves. A close that returns 0 is Done.
+ *
+ * *Flash that a driver writes*: thimmorel_plan_erase(), thimmorel_plan_fill() and
+ * thimmorel_plan_close() only read the slot, and hand back the operation. The board makes it and
+ * goes on. A plan_close that returns 0 is not Done: the file is accepted, and its first word is the
+ * operation. Once that is made, thimmorel_confirm() reads the slot, and its 0 is Done. No call
+ * returns 0 for Done before the first word stands in the slot.
+ *
+ * If an operation fails, or the power does, drop the record and begin again.
+ *
+ * `examples/install.c` is a whole install with a driver that can fail.
  *
  * ## The record
  *
- * A session is kept in a record of 16 words that the caller owns. Pass it from call to call
+ * A session is kept in a `struct thimmorel_record` that the caller owns. Pass it from call to call
  * unchanged. It may be copied, stored and restored, and its words keep their meaning in later
- * versions.
+ * versions. Its numbers tell how far the install is.
  *
- * | word | meaning |
- * |---|---|
- * | 0 | the phase: 1 if the session is open, 0 if it is over |
- * | 1 | length of the slot |
- * | 2 | length of the file |
- * | 3 | pages erased |
- * | 4 | bytes taken |
- * | 5 | operations made since begin; at Done they are slot / 4,096 + file / 4 |
- * | 6 | first word of the file, once it is complete; little-endian |
- * | 7 | word in progress: the bytes of it that are taken; little-endian |
- * | 8 to 15 | reserved: begin writes 0, every other call leaves them, and no call reads them |
+ * Any words are allowed and get an answer. A call answers 19
  *
- * Any 16 words are allowed and get an answer. A call answers 19
- *
- *  - if word 0 is not 1;
+ *  - if the phase is not 1, or for thimmorel_confirm() not 2;
  *
  *  - if the slot's length is not that at begin;
  *
@@ -441,11 +660,11 @@ uint32_t thimmorel_write_firmware(uint32_t v, uint32_t expiry, const uint8_t ver
  *                      refusal a session that is over, all words 0.
  * \return 0, or the refusal.
  */
-uint32_t thimmorel_begin(const uint8_t *slot, size_t slot_length, size_t file_length,
-	uint32_t record[16]);
+uint32_t thimmorel_begin(const uint8_t *slot, uint64_t slot_length, uint64_t file_length,
+	struct thimmorel_record *record);
 
 /**
- * \brief Erase the next page of the slot, from the first up.
+ * \brief Erase the next page of a slot in memory, from the first up.
  *
  * Refusal: 19, also once all pages are erased.
  *
@@ -456,10 +675,10 @@ uint32_t thimmorel_begin(const uint8_t *slot, size_t slot_length, size_t file_le
  * \param slot_length   the number of its bytes.
  * \return 0, or 19.
  */
-uint32_t thimmorel_erase(uint32_t record[16], uint8_t *slot, size_t slot_length);
+uint32_t thimmorel_erase(struct thimmorel_record *record, uint8_t *slot, uint64_t slot_length);
 
 /**
- * \brief Give the next bytes of the file.
+ * \brief Give the next bytes of the file to a slot in memory.
  *
  * The call takes bytes from the start of the piece until the current word is complete, the piece
  * ends or the file is complete, so 0 to 4 bytes. A completed word is stored at its place, except
@@ -480,15 +699,15 @@ uint32_t thimmorel_erase(uint32_t record[16], uint8_t *slot, size_t slot_length)
  * \param taken          written only on success: how many bytes of the piece were taken.
  * \return 0, or the refusal.
  */
-uint32_t thimmorel_fill(uint32_t record[16], const uint8_t *piece, size_t piece_length,
-	uint8_t *slot, size_t slot_length, uint32_t taken[1]);
+uint32_t thimmorel_fill(struct thimmorel_record *record, const uint8_t *piece,
+	uint64_t piece_length, uint8_t *slot, uint64_t slot_length, uint32_t *taken);
 
 /**
  * \brief Compute the two digests that the signatures of the new file sign.
  *
  * The call answers as thimmorel_vendor_digest() and thimmorel_firmware_digest() do for the file:
  * the slot's bytes up to the file's length, with the first word from the record. The chip can then
- * give the verdicts for thimmorel_close(). Record and slot are not changed.
+ * give the verdicts for the close. Record and slot are not changed.
  *
  * Refusal: 19, also until all bytes of the file are taken. If a digest is refused, `answers` says
  * so, and the call still returns 0.
@@ -496,22 +715,37 @@ uint32_t thimmorel_fill(uint32_t record[16], const uint8_t *piece, size_t piece_
  * \param record        the session.
  * \param slot          the slot.
  * \param slot_length   the number of its bytes.
- * \param answers       written only on success: number, part and chunk for the vendor header's
- *                      digest, then for the firmware header's.
- * \param digests       written only on success: the vendor header's 32 bytes, then the firmware
- *                      header's. A digest that is refused is all zero.
+ * \param answers       always written: the answer for each digest. If the call returns 19, both
+ *                      numbers are 19.
+ * \param digests       written only on success. A digest that is refused is all zero.
  * \return 0, or 19.
  */
-uint32_t thimmorel_ask(const uint32_t record[16], const uint8_t *slot, size_t slot_length,
-	uint32_t answers[6], uint8_t digests[64]);
+uint32_t thimmorel_ask(const struct thimmorel_record *record, const uint8_t *slot,
+	uint64_t slot_length, struct thimmorel_answers *answers, struct thimmorel_digests *digests);
 
 /**
- * \brief Check the new file and, if it is accepted, finish the install.
+ * \brief Tell where the signatures of the new file are in the slot, and the keys.
+ *
+ * The call tells for each header what thimmorel_find_vendor_signature() and
+ * thimmorel_find_firmware_signature() tell for the file that thimmorel_ask() asks about. A place is
+ * empty where that header's digest is refused, and all are where thimmorel_ask() returns 19. No
+ * place takes in the slot's first word. Record and slot are not changed.
+ *
+ * \param record        the session.
+ * \param slot          the slot.
+ * \param slot_length   the number of its bytes.
+ * \param signatures    always written.
+ */
+void thimmorel_find_signatures(const struct thimmorel_record *record, const uint8_t *slot,
+	uint64_t slot_length, struct thimmorel_signatures *signatures);
+
+/**
+ * \brief Check the new file and, if it is accepted, finish the install in a slot in memory.
  *
  * The check is thimmorel_check_file() of the file: the slot's bytes up to the file's length, with
  * the first word from the record. If it accepts, the first word is stored, the session is over, and
- * the answer is 0, Done: thimmorel_check_slot() with the same time, policy and verdicts then
- * accepts the slot. Refusals, in order:
+ * the answer is 0, Done: thimmorel_check_slot() with the same inputs then accepts the slot.
+ * Refusals, in order:
  *
  *  - 19, also until all bytes of the file are taken. The session is unchanged;
  *
@@ -519,21 +753,94 @@ uint32_t thimmorel_ask(const uint32_t record[16], const uint8_t *slot, size_t sl
  *
  *  - the check's refusal. The slot is unchanged, and the session is over.
  *
- * \param record        the session. If the check ran, word 0 becomes 0, and at Done the session
- *                      counts one more operation. Words 1 to 4, 6 and 7 are unchanged.
+ * \param record        the session. If the check ran, the phase becomes 0, and at Done the session
+ *                      counts one more operation. Nothing else in it changes.
  * \param slot          the slot. At Done its first word is the file's. After a refusal it is
  *                      unchanged.
  * \param slot_length   the number of its bytes.
- * \param time          the current time.
- * \param m             how many keys must have signed the vendor header.
- * \param n             how many keys there are for the vendor header.
- * \param vendor        the chip's verdict on the vendor header's signature.
- * \param firmware      the chip's verdict on the firmware header's signature.
- * \param where         always written: the part and the chunk of the check's refusal, or 0 and 0.
+ * \param inputs        the time, the key policy m of n for the vendor header, and the chip's
+ *                      verdicts.
+ * \param answer        always written: the number, and the part and the chunk of the check's
+ *                      refusal, or 0 and 0.
+ * \return 0, which is Done, or the refusal.
+ */
+uint32_t thimmorel_close(struct thimmorel_record *record, uint8_t *slot, uint64_t slot_length,
+	const struct thimmorel_inputs *inputs, struct thimmorel_answer *answer);
+
+/**
+ * \brief Plan the erase of the next page, from the first up.
+ *
+ * The record and the return value are those of thimmorel_erase(), and making the operation has the
+ * effect of that call on the slot. Make it before the next call.
+ *
+ * \param record        the session.
+ * \param slot          the slot. It is only read.
+ * \param slot_length   the number of its bytes.
+ * \param operation     always written: the page to erase, or nothing after a refusal.
+ * \return 0, or 19.
+ */
+uint32_t thimmorel_plan_erase(struct thimmorel_record *record, const uint8_t *slot,
+	uint64_t slot_length, struct thimmorel_operation *operation);
+
+/**
+ * \brief Take the next bytes of the file, and plan the store of a word that they complete.
+ *
+ * The record, the return value and `taken` are those of thimmorel_fill(), and making the operation
+ * has the effect of that call on the slot. Make it before the next call.
+ *
+ * \param record         the session.
+ * \param piece          the next bytes of the file.
+ * \param piece_length   the number of bytes in the piece.
+ * \param slot           the slot. It is only read.
+ * \param slot_length    the number of its bytes.
+ * \param taken          written only on success: how many bytes of the piece were taken.
+ * \param operation      always written: the word to store; or nothing, if no word is complete, if
+ *                       it is the first word, or after a refusal.
  * \return 0, or the refusal.
  */
-uint32_t thimmorel_close(uint32_t record[16], uint8_t *slot, size_t slot_length, uint32_t time,
-	uint32_t m, uint32_t n, bool vendor, bool firmware, uint32_t where[2]);
+uint32_t thimmorel_plan_fill(struct thimmorel_record *record, const uint8_t *piece,
+	uint64_t piece_length, const uint8_t *slot, uint64_t slot_length, uint32_t *taken,
+	struct thimmorel_operation *operation);
+
+/**
+ * \brief Check the new file and, if it is accepted, plan the store of its first word.
+ *
+ * The check and the refusals are those of thimmorel_close(). A return value of 0 is not Done: it
+ * says that the file is accepted. The phase is then 2, and the record counts the operation. Make
+ * it, and call thimmorel_confirm().
+ *
+ * \param record        the session. A refusal leaves it as thimmorel_close() does.
+ * \param slot          the slot. It is only read.
+ * \param slot_length   the number of its bytes.
+ * \param inputs        the time, the key policy m of n for the vendor header, and the chip's
+ *                      verdicts.
+ * \param answer        always written: the number, and the part and the chunk of the check's
+ *                      refusal, or 0 and 0.
+ * \param operation     always written: the first word to store, or nothing after a refusal.
+ * \return 0 if the file is accepted, or the refusal.
+ */
+uint32_t thimmorel_plan_close(struct thimmorel_record *record, const uint8_t *slot,
+	uint64_t slot_length, const struct thimmorel_inputs *inputs, struct thimmorel_answer *answer,
+	struct thimmorel_operation *operation);
+
+/**
+ * \brief Finish an install whose file is accepted, once its first word stands in the slot.
+ *
+ * The call reads the slot's first word. Refusals, in order:
+ *
+ *  - 19 if no accepted file waits for it: the phase is not 2, or the record is inconsistent;
+ *
+ *  - 27 if the slot does not start with the file's first word: the operation of
+ *    thimmorel_plan_close() was not made, or failed.
+ *
+ * \param record        the session. On success its phase becomes 0, and nothing else changes. After
+ *                      a refusal it is unchanged.
+ * \param slot          the slot. It is only read.
+ * \param slot_length   the number of its bytes.
+ * \return 0, which is Done, or the refusal.
+ */
+uint32_t thimmorel_confirm(struct thimmorel_record *record, const uint8_t *slot,
+	uint64_t slot_length);
 
 #ifdef __cplusplus
 }
