@@ -1,2 +1,2 @@
 -- The laws that the proofs of abi cite.
-pub mod Carried
+pub mod Numbers

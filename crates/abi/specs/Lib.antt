@@ -1,5 +1,6 @@
 -- What the contracts of abi, and of the exported calls, cite.
-pub mod Words
-pub mod Session
+pub mod Inputs
+pub mod Answers
+pub mod Places
 pub mod Headers
-pub mod Carried
+pub mod Theorems

@@ -4,24 +4,15 @@ use image::Answer;
 use image::Image;
 use image::Version;
 ghost use mathlib.Core.Path.{_≡_};
-ghost use Rattle.image.specs.Answer.{numberOf, whereOf};
-ghost use Rattle.abi.specs.Words.{versionWord, toldWords, imageWords};
+ghost use Rattle.image.specs.Answer.{numberOf};
+ghost use Rattle.abi.specs.Answers.{answerWords, versionWord, toldWords, imageWords};
 
-fn number_of(answer: Answer) -> u32
-    ensures { λ r. ⌜ r ≡ numberOf answer ⌝ }
+fn answer_words(answer: Answer) -> [u32; 3]
+    ensures { λ r. ⌜ r ≡ answerWords answer ⌝ }
 {
     match answer {
-        Answer::Accepted(_) => 0,
-        Answer::Rejected(r) => r.number,
-    }
-}
-
-fn where_words(answer: Answer) -> [u32; 2]
-    ensures { λ r. ⌜ r ≡ whereOf answer ⌝ }
-{
-    match answer {
-        Answer::Accepted(_) => [0, 0],
-        Answer::Rejected(r) => [r.part, r.chunk],
+        Answer::Accepted(_) => [0, 0, 0],
+        Answer::Rejected(r) => [r.number, r.part, r.chunk],
     }
 }
 
@@ -48,17 +39,17 @@ fn image_words(answer: Answer, old: [u32; 4]) -> [u32; 4]
     }
 }
 
-// The answer's number comes back, its part and chunk go to place, and what an acceptance tells goes
-// to image, which a refusal leaves as it was.
-pub fn tell(answer: Answer, place: &mut [u32; 2], image: &mut [u32; 4]) -> u32
+// The answer's number comes back, the whole answer goes to told, and what an acceptance tells goes to
+// image, which a refusal leaves as it was.
+pub fn tell(answer: Answer, told: &mut [u32; 3], image: &mut [u32; 4]) -> u32
     ensures { λ r. ⌜ r ≡ numberOf answer ⌝ }
-    ensures { λ r. ⌜ now (place .exit) ≡ whereOf answer ⌝ }
+    ensures { λ r. ⌜ now (told .exit) ≡ answerWords answer ⌝ }
     ensures { λ r. ⌜ now (image .exit) ≡ imageWords answer (now (image .entry)) ⌝ }
 {
-    let at = where_words(answer);
-    *place = at;
+    let words = answer_words(answer);
+    *told = words;
     let old = *image;
-    let told = image_words(answer, old);
-    *image = told;
-    number_of(answer)
+    let accepted = image_words(answer, old);
+    *image = accepted;
+    words[0]
 }

@@ -1,13 +1,12 @@
-// How numbers, answers and the session's record cross the C boundary: as words.
+// How numbers, answers and places cross the C boundary: as words.
 //
 // What is read here comes from a C caller, and what is told goes to one. The exported calls, in the
-// crate `thimmorel`, are made of these and of the library's own calls.
+// crate `thimmorel`, are made of these, of `abi_session` and of the library's own calls.
 pub mod answer;
 pub mod digest;
+pub mod headers;
+pub mod inputs;
 pub mod number;
-pub mod parts;
-pub mod reply;
-pub mod session;
+pub mod places;
 pub mod theorems;
 pub mod trust;
-pub mod written;

@@ -5,9 +5,9 @@ use octets::put::byte2;
 use octets::put::byte3;
 ghost use mathlib.Core.Path.{_≡_};
 ghost use mathlib.Core.List.{[], _∷_};
-ghost use Prim.Native.Nat.{_%_};
+ghost use Prim.Native.Nat.{_%_, min};
 ghost use Rattle.octets.specs.Put.{le32};
-ghost use Rattle.abi.specs.Words.{flag};
+ghost use Rattle.abi.specs.Answers.{flag};
 
 // A byte as a word.
 pub fn wide(x: u8) -> u32
@@ -35,6 +35,20 @@ pub fn count(k: usize) -> [u32; 1]
     ensures { λ r. ⌜ r ≡ k % 4294967296 ∷ [] ⌝ }
 {
     [low(k)]
+}
+
+// The low 16 bits of a word.
+pub fn low16(w: u32) -> u16
+    ensures { λ r. ⌜ r ≡ w % 65536 ⌝ }
+{
+    (w % 65536) as u16
+}
+
+// A word as a byte, 255 where it is above that.
+pub fn at_most_byte(w: u32) -> u8
+    ensures { λ r. ⌜ r ≡ min w 255 ⌝ }
+{
+    if w < 255 { w as u8 } else { 255 }
 }
 
 // 1 for yes, and 0 for no.

@@ -1,7 +1,7 @@
-// The words of a session carry its record from call to call (specification, 10.2).
-ghost use Rattle.abi.specs.Carried.{WordsCarryTheRecord};
+// What is shown of the words, each as the promise of a function with an empty body.
+ghost use Rattle.abi.specs.Theorems.{NumbersAreRead};
 
-// What a call leaves in the words is the record that it gave.
-pub fn words_carry_the_record()
-    ensures { λ r. ⌜ WordsCarryTheRecord ⌝ }
+// Numbers that fit their fields are read as they stand.
+pub fn numbers_are_read()
+    ensures { λ r. ⌜ NumbersAreRead ⌝ }
 {}

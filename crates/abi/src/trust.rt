@@ -2,7 +2,7 @@
 use crate::number::flag;
 use header::trust::Trust;
 ghost use mathlib.Core.Path.{_≡_};
-ghost use Rattle.abi.specs.Words.{trustWords};
+ghost use Rattle.abi.specs.Answers.{trustWords};
 
 // The seconds, and 1 for each feature that is active.
 pub fn trust_words(t: Trust) -> [u32; 5]

@@ -1,61 +1,42 @@
 // The checks, for C (specification, 6).
 use abi::answer::tell;
-use header::Inputs;
+use abi::inputs::inputs_of;
 use image::check_file;
 use image::check_slot;
 ghost use mathlib.Core.Path.{_≡_};
-ghost use Rattle.image.specs.Answer.{numberOf, whereOf};
+ghost use Rattle.image.specs.Answer.{numberOf};
 ghost use Rattle.image.specs.Check.{checkFile, checkSlot};
-ghost use Rattle.abi.specs.Words.{inputs, imageWords};
+ghost use Rattle.abi.specs.Inputs.{inputsOf};
+ghost use Rattle.abi.specs.Answers.{answerWords, imageWords};
 
 // The check of a file.
 #[no_mangle]
 pub extern "C" fn thimmorel_check_file(
     bytes: &[u8],
-    time: u32,
-    m: u32,
-    n: u32,
-    vendor: bool,
-    firmware: bool,
-    place: &mut [u32; 2],
+    inputs: &[u32; 5],
+    answer: &mut [u32; 3],
     image: &mut [u32; 4],
 ) -> u32
-    ensures { λ r. ⌜ r ≡ numberOf (checkFile (now (bytes .entry)) (inputs time m n vendor firmware)) ⌝ }
-    ensures { λ r. ⌜ now (place .exit) ≡ whereOf (checkFile (now (bytes .entry)) (inputs time m n vendor firmware)) ⌝ }
-    ensures { λ r. ⌜ now (image .exit) ≡ imageWords (checkFile (now (bytes .entry)) (inputs time m n vendor firmware)) (now (image .entry)) ⌝ }
+    ensures { λ r. ⌜ r ≡ numberOf (checkFile (now (bytes .entry)) (inputsOf (now (inputs .entry)))) ⌝ }
+    ensures { λ r. ⌜ now (answer .exit) ≡ answerWords (checkFile (now (bytes .entry)) (inputsOf (now (inputs .entry)))) ⌝ }
+    ensures { λ r. ⌜ now (image .exit) ≡ imageWords (checkFile (now (bytes .entry)) (inputsOf (now (inputs .entry)))) (now (image .entry)) ⌝ }
 {
-    let given = Inputs {
-        time,
-        m,
-        n,
-        vendor,
-        firmware,
-    };
-    tell(check_file(bytes, given), place, image)
+    let words = *inputs;
+    tell(check_file(bytes, inputs_of(words)), answer, image)
 }
 
 // The check of a slot, which is the boot check.
 #[no_mangle]
 pub extern "C" fn thimmorel_check_slot(
     bytes: &[u8],
-    time: u32,
-    m: u32,
-    n: u32,
-    vendor: bool,
-    firmware: bool,
-    place: &mut [u32; 2],
+    inputs: &[u32; 5],
+    answer: &mut [u32; 3],
     image: &mut [u32; 4],
 ) -> u32
-    ensures { λ r. ⌜ r ≡ numberOf (checkSlot (now (bytes .entry)) (inputs time m n vendor firmware)) ⌝ }
-    ensures { λ r. ⌜ now (place .exit) ≡ whereOf (checkSlot (now (bytes .entry)) (inputs time m n vendor firmware)) ⌝ }
-    ensures { λ r. ⌜ now (image .exit) ≡ imageWords (checkSlot (now (bytes .entry)) (inputs time m n vendor firmware)) (now (image .entry)) ⌝ }
+    ensures { λ r. ⌜ r ≡ numberOf (checkSlot (now (bytes .entry)) (inputsOf (now (inputs .entry)))) ⌝ }
+    ensures { λ r. ⌜ now (answer .exit) ≡ answerWords (checkSlot (now (bytes .entry)) (inputsOf (now (inputs .entry)))) ⌝ }
+    ensures { λ r. ⌜ now (image .exit) ≡ imageWords (checkSlot (now (bytes .entry)) (inputsOf (now (inputs .entry)))) (now (image .entry)) ⌝ }
 {
-    let given = Inputs {
-        time,
-        m,
-        n,
-        vendor,
-        firmware,
-    };
-    tell(check_slot(bytes, given), place, image)
+    let words = *inputs;
+    tell(check_slot(bytes, inputs_of(words)), answer, image)
 }

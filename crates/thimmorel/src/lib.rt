@@ -1,11 +1,12 @@
 // The C interface: what firmware links. `include/thimmorel.h` declares and documents each call.
 //
-// An exported function is thin. It calls the proved library, tells the answer by `abi`, and carries
-// the same promise.
+// An exported function is thin. It calls the proved library, tells the answer by `abi` and
+// `abi_session`, and carries the same promise. A struct of the header is an array here.
 mod check;
 mod digests;
 mod install;
-mod parts;
+mod places;
+mod plans;
 mod writers;
 
 ghost use mathlib.Core.Path.{_≡_};

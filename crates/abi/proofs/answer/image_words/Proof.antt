@@ -1,4 +1,4 @@
--- `abi::check::image_words` meets its contract: by what the calls ensure, in each case of the answer.
+-- `abi::answer::image_words` meets its contract: by what the calls ensure, in each case of the answer.
 use borrow.Author.Needs.{needs}
 use Rattle.abi.proofs.answer.image_words.Statement.{statement}
 use Rattle.abi.proofs.answer.image_words.Tie as tie

@@ -1,6 +1,6 @@
--- `abi::check::told_words` meets its contract: each version's word is what `version_word` ensures.
+-- `abi::answer::told_words` meets its contract: each version's word is what `version_word` ensures.
 use borrow.Author.Needs.{needs}
-use Rattle.abi.specs.Words.{toldWords}
+use Rattle.abi.specs.Answers.{toldWords}
 use Rattle.abi.proofs.answer.told_words.Statement.{statement}
 use Rattle.abi.proofs.answer.told_words.Tie as tie
 
