@@ -50,18 +50,17 @@ module _ (w b : List ℕ) (l : length w ≡ 4) where
   pub word-length : 4 ≤ length b → length (w ++ drop 4 b) ≡ length b
   word-length h = simp (length-append, length-drop) (omega arith)
 
+  pub word-byte : (i : ℕ) → 4 ≤ i → getD (w ++ drop 4 b) i 0 ≡ getD b i 0
+  word-byte i g =
+      let p : i ≡ length w + (i - 4) = omega arith in
+      let q : 4 + (i - 4) ≡ i = omega arith in
+      ap (λ (j : ℕ). getD (w ++ drop 4 b) j 0) p
+      ∙ getD-append-add w (drop 4 b) (i - 4) 0
+      ∙ getD-drop 4 b (i - 4) 0
+      ∙ ap (λ (j : ℕ). getD b j 0) q
+
   pub word-alike : 4 ≤ length b → Alike afterWord anyEnd (w ++ drop 4 b) b
-  word-alike h = record {
-    at = λ i r.
-        let g = leb-true 4 i r in
-        let p : i ≡ length w + (i - 4) = omega arith in
-        let q : 4 + (i - 4) ≡ i = omega arith in
-        ap (λ (j : ℕ). getD (w ++ drop 4 b) j 0) p
-        ∙ getD-append-add w (drop 4 b) (i - 4) 0
-        ∙ getD-drop 4 b (i - 4) 0
-        ∙ ap (λ (j : ℕ). getD b j 0) q;
-    len = λ n r. ap (min n) (word-length h);
-  }
+  word-alike h = record { at = λ i r. word-byte i (leb-true 4 i r); len = λ n r. ap (min n) (word-length h) }
 
   -- where the vendor header has its shape, the bytes are long enough
   pub shaped-word-alike : firstFailing (vendorShape b) ≡ Pass → Alike afterWord anyEnd (w ++ drop 4 b) b

@@ -6,7 +6,7 @@ use mathlib.Core.List.{List, [], _∷_, _++_, append-assoc}
 use mathlib.Core.Bool.{Bool, not}
 use native.Mathlib.Omega.{arith}
 use lib.ListN.{length, take, drop, replicate}
-use Rattle.octets.specs.Read.{between, startsWith}
+use Rattle.octets.specs.Read.{u32At, between, startsWith}
 use Rattle.blake2s.specs.Rfc7693.{blake2sOf}
 use Rattle.blake2s.specs.Parts.{zeroTailed}
 use Rattle.header.specs.Layout.{TRZV, vendorLen, maskAt}
@@ -15,13 +15,13 @@ use Rattle.header.specs.Table.{Row, firstFailing, vendorShape, firmwareShape}
 use Rattle.header.specs.Outcome.{told}
 use Rattle.header.specs.declared.Outcome.{Outcome}
 use Rattle.header.specs.declared.Outcome.the-variants.{Pass, Refused}
-use Rattle.header.proofs.Rows.{same-row, same-stage, stage-first, pass-tail}
+use Rattle.header.proofs.Rows.{same-row, same-stage, stage-first, stage-then, pass-tail}
 use Rattle.header.proofs.Facts.{vendor-shaped}
-use Rattle.header.proofs.Alike.{vendor-len-alike, between-alike}
+use Rattle.header.proofs.Alike.{between-alike}
 use Rattle.header.proofs.Told.{told-too}
 use Rattle.signing.specs.Digests.{vendorRows, firmwareRows, signedVendor, signedFirmware, answered, vendorDigest, firmwareDigest}
 use Rattle.signing.specs.declared.Digest.{Digest}
-use Rattle.header.proofs.WordApart.{read-after-word, shaped-word-alike, word-magic, word-vendor-shape, word-firmware-shape}
+use Rattle.header.proofs.WordApart.{read-after-word, word-byte, shaped-word-alike, word-magic, word-vendor-shape, word-firmware-shape}
 
 -- ---- a call's return, whichever its rows are
 
@@ -35,6 +35,20 @@ answers rows b e magic first found h = rw (← magic, ← first, found) h
 pub tells : {x y : Digest} → x ≡ y → (x ≡ y) × (told (x .outcome) ≡ told (y .outcome))
 tells e = told-too (λ (x : Digest). told (x .outcome)) e
 
+-- ---- rows that pass: the headers have their shape
+
+pub vendor-rows-shape : (m : Bool) (b : List ℕ) → firstFailing (vendorRows m b) ≡ Pass → firstFailing (vendorShape b) ≡ Pass
+unfolding vendorRows
+vendor-rows-shape m b p = pass-tail m _ _ p
+
+pub firmware-rows-shape : (m : Bool) (b : List ℕ) → firstFailing (firmwareRows m b) ≡ Pass → firstFailing (vendorShape b) ≡ Pass
+unfolding firmwareRows
+firmware-rows-shape m b p = stage-first _ (firmwareShape b) (pass-tail m _ _ p)
+
+pub firmware-rows-own-shape : (m : Bool) (b : List ℕ) → firstFailing (firmwareRows m b) ≡ Pass → firstFailing (firmwareShape b) ≡ Pass
+unfolding firmwareRows
+firmware-rows-own-shape m b p = stage-then (vendorShape b) _ (pass-tail m _ _ p)
+
 -- ---- the word given apart
 
 answered-same : (o o′ : Outcome) (d d′ : List ℕ) → o ≡ o′ → (o′ ≡ Pass → d ≡ d′) → answered o d ≡ answered o′ d′
@@ -46,42 +60,42 @@ take-past [] r n = let e : 0 + n ≡ n = omega arith in rw e
 take-past (x ∷ w) r n = let e : suc (length w) + n ≡ suc (length w + n) = omega arith in rw e (ap (λ (l : List ℕ). x ∷ l) (take-past w r n))
 
 module _ (w b : List ℕ) (l : length w ≡ 4) where
-  word-len : firstFailing (vendorShape b) ≡ Pass → vendorLen (w ++ drop 4 b) ≡ vendorLen b
-  word-len p = vendor-len-alike (shaped-word-alike w b l p) (read-after-word b)
+  pub word-len : vendorLen (w ++ drop 4 b) ≡ vendorLen b
+  unfolding u32At
+  word-len = rw (word-byte w b l 4 (omega arith), word-byte w b l 5 (omega arith), word-byte w b l 6 (omega arith), word-byte w b l 7 (omega arith))
 
   signed-vendor : firstFailing (vendorShape b) ≡ Pass → signedVendor (w ++ drop 4 b) ≡ w ++ zeroTailed (between 4 (maskAt (vendorLen b)) b)
   unfolding signedVendor between
   signed-vendor p =
       let least = vendor-shaped b p .size .least in
       let e : vendorLen b - 65 - 0 ≡ length w + (vendorLen b - 65 - 4) = omega arith in
-      rw (word-len p, e, take-past w (drop 4 b) (vendorLen b - 65 - 4)) (append-assoc w (take (vendorLen b - 65 - 4) (drop 4 b)) (replicate 65 0))
+      rw (word-len, e, take-past w (drop 4 b) (vendorLen b - 65 - 4)) (append-assoc w (take (vendorLen b - 65 - 4) (drop 4 b)) (replicate 65 0))
 
   signed-firmware : firstFailing (vendorShape b) ≡ Pass → signedFirmware (w ++ drop 4 b) ≡ signedFirmware b
   unfolding signedFirmware
   signed-firmware p =
       let least = vendor-shaped b p .size .least in
       let read = read-after-word b in
-      rw (word-len p) (ap zeroTailed (between-alike (shaped-word-alike w b l p) (vendorLen b) (vendorLen b + 959) refl (λ i g h. read .firmware least i g (omega arith))))
+      rw (word-len) (ap zeroTailed (between-alike (shaped-word-alike w b l p) (vendorLen b) (vendorLen b + 959) refl (λ i g h. read .firmware least i g (omega arith))))
 
-  -- rows that answer the same with the word in its place, and digests that are the same where they pass, make one answer
-  apart : (rows : Bool → List ℕ → List Row) (d e : List ℕ)
-      → ((m : Bool) → firstFailing (rows m (w ++ drop 4 b)) ≡ firstFailing (rows m b))
-      → ((m : Bool) → firstFailing (rows m b) ≡ Pass → d ≡ e)
-      → answered (firstFailing (rows (vendorMagicMissing (w ++ drop 4 b)) (w ++ drop 4 b))) (blake2sOf d)
-      ≡ answered (firstFailing (rows (not (startsWith TRZV w)) b)) (blake2sOf e)
-  apart rows d e same digest =
-      answered-same _ _ _ _ (ap (λ (m : Bool). firstFailing (rows m (w ++ drop 4 b))) (word-magic w b l) ∙ same _) (λ p. ap blake2sOf (digest _ p))
+  -- S1 is asked of the word, and the other rows answer the same with the word in its place
+  asked-apart : (rows : Bool → List ℕ → List Row) → ((m : Bool) → firstFailing (rows m (w ++ drop 4 b)) ≡ firstFailing (rows m b))
+      → firstFailing (rows (vendorMagicMissing (w ++ drop 4 b)) (w ++ drop 4 b)) ≡ firstFailing (rows (not (startsWith TRZV w)) b)
+  asked-apart rows same = ap (λ (m : Bool). firstFailing (rows m (w ++ drop 4 b))) (word-magic w b l) ∙ same _
+
+  pub vendor-rows-apart : firstFailing (vendorRows (vendorMagicMissing (w ++ drop 4 b)) (w ++ drop 4 b)) ≡ firstFailing (vendorRows (not (startsWith TRZV w)) b)
+  unfolding vendorRows
+  vendor-rows-apart = asked-apart vendorRows (λ m. same-row _ _ _ refl (λ g. word-vendor-shape w b l))
+
+  pub firmware-rows-apart : firstFailing (firmwareRows (vendorMagicMissing (w ++ drop 4 b)) (w ++ drop 4 b)) ≡ firstFailing (firmwareRows (not (startsWith TRZV w)) b)
+  unfolding firmwareRows
+  firmware-rows-apart =
+      asked-apart firmwareRows (λ m. same-row _ _ _ refl (λ g. same-stage _ _ _ _ (word-vendor-shape w b l) (λ p. word-firmware-shape w b l p)))
 
   pub vendor-apart : vendorDigest (w ++ drop 4 b) ≡ answered (firstFailing (vendorRows (not (startsWith TRZV w)) b)) (blake2sOf (w ++ zeroTailed (between 4 (maskAt (vendorLen b)) b)))
-  unfolding vendorDigest vendorRows
-  vendor-apart =
-      apart vendorRows _ _
-      (λ m. same-row _ _ _ refl (λ g. word-vendor-shape w b l))
-      (λ m p. signed-vendor (pass-tail m _ _ p))
+  unfolding vendorDigest
+  vendor-apart = answered-same _ _ _ _ vendor-rows-apart (λ p. ap blake2sOf (signed-vendor (vendor-rows-shape _ b p)))
 
   pub firmware-apart : firmwareDigest (w ++ drop 4 b) ≡ answered (firstFailing (firmwareRows (not (startsWith TRZV w)) b)) (blake2sOf (signedFirmware b))
-  unfolding firmwareDigest firmwareRows
-  firmware-apart =
-      apart firmwareRows _ _
-      (λ m. same-row _ _ _ refl (λ g. same-stage _ _ _ _ (word-vendor-shape w b l) (λ p. word-firmware-shape w b l p)))
-      (λ m p. signed-firmware (stage-first _ (firmwareShape b) (pass-tail m _ _ p)))
+  unfolding firmwareDigest
+  firmware-apart = answered-same _ _ _ _ firmware-rows-apart (λ p. ap blake2sOf (signed-firmware (firmware-rows-shape _ b p)))

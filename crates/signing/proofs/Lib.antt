@@ -1,2 +1,3 @@
 -- The laws that the proofs of signing cite.
 pub mod Laws
+pub mod Signatures

@@ -13,11 +13,8 @@ use octets::minus;
 use octets::starts_with;
 ghost use mathlib.Core.Path.{_≡_};
 ghost use mathlib.Core.List.{_++_};
-ghost use Prim.Native.Nat.{_+_, _≤_};
 ghost use lib.ListN.{drop};
-ghost use Rattle.header.specs.Table.{firstFailing};
-ghost use Rattle.signing.specs.Digests.{vendorRows, firmwareRows};
-ghost use Rattle.signing.specs.Places.{spanAt, noSignature, vendorPlaces, firmwarePlaces, whenAnswered, vendorSignature, firmwareSignature};
+ghost use Rattle.signing.specs.Places.{noSignature, vendorPlaces, firmwarePlaces, whenAnswered, vendorSignature, firmwareSignature};
 
 // Where the sigmask and the signature of a header stand; and for the firmware header, where the
 // vendor's keys stand, and that m of these n must sign. For the vendor header there are no keys here,
@@ -30,20 +27,10 @@ pub struct Signature {
     pub n: u32,
 }
 
-fn span_at(at: usize, n: usize) -> Span
-    requires { ⌜ (at ≤ 4294968320) × (n ≤ 4294967296) ⌝ }
-    ensures { λ r. ⌜ r ≡ spanAt at n ⌝ }
-{
-    Span {
-        from: at,
-        to: at + n,
-    }
-}
-
 fn no_signature() -> Signature
     ensures { λ r. ⌜ r ≡ noSignature ⌝ }
 {
-    let none = span_at(0, 0);
+    let none = Span { from: 0, to: 0 };
     Signature {
         mask: none,
         sig: none,
@@ -58,9 +45,15 @@ fn vendor_places(b: &[u8]) -> Signature
 {
     let at = minus(vendor_len(b) as usize, 65);
     Signature {
-        mask: span_at(at, 1),
-        sig: span_at(at + 1, 64),
-        keys: span_at(0, 0),
+        mask: Span {
+            from: at,
+            to: at + 1,
+        },
+        sig: Span {
+            from: at + 1,
+            to: at + 1 + 64,
+        },
+        keys: Span { from: 0, to: 0 },
         m: 0,
         n: 0,
     }
@@ -72,8 +65,14 @@ fn firmware_places(b: &[u8]) -> Signature
     let v = vendor_len(b) as usize;
     let n = key_count(b);
     Signature {
-        mask: span_at(v + 959, 1),
-        sig: span_at(v + 960, 64),
+        mask: Span {
+            from: v + 959,
+            to: v + 959 + 1,
+        },
+        sig: Span {
+            from: v + 960,
+            to: v + 960 + 64,
+        },
         keys: Span {
             from: 32,
             to: 32 + 32 * (n as usize),
@@ -83,25 +82,13 @@ fn firmware_places(b: &[u8]) -> Signature
     }
 }
 
-// The vendor header's, where S1 fails as told.
-fn vendor_told(magic_missing: bool, b: &[u8]) -> Signature
-    ensures { λ r. ⌜ r ≡ whenAnswered (firstFailing (vendorRows «magic_missing» (now (b .entry)))) (vendorPlaces (now (b .entry))) ⌝ }
+fn when_answered(outcome: Outcome, places: Signature) -> Signature
+    ensures { λ r. ⌜ r ≡ whenAnswered outcome places ⌝ }
 {
-    let outcome = vendor_rows(magic_missing, b);
+    let none = no_signature();
     match outcome {
-        Outcome::Refused(_) => no_signature(),
-        Outcome::Pass => vendor_places(b),
-    }
-}
-
-// The firmware header's, where S1 fails as told.
-fn firmware_told(magic_missing: bool, b: &[u8]) -> Signature
-    ensures { λ r. ⌜ r ≡ whenAnswered (firstFailing (firmwareRows «magic_missing» (now (b .entry)))) (firmwarePlaces (now (b .entry))) ⌝ }
-{
-    let outcome = firmware_rows(magic_missing, b);
-    match outcome {
-        Outcome::Refused(_) => no_signature(),
-        Outcome::Pass => firmware_places(b),
+        Outcome::Refused(_) => none,
+        Outcome::Pass => places,
     }
 }
 
@@ -109,26 +96,35 @@ fn firmware_told(magic_missing: bool, b: &[u8]) -> Signature
 pub fn vendor_signature(b: &[u8]) -> Signature
     ensures { λ r. ⌜ r ≡ vendorSignature (now (b .entry)) ⌝ }
 {
-    vendor_told(vendor_magic_missing(b), b)
+    when_answered(vendor_rows(vendor_magic_missing(b), b), vendor_places(b))
 }
 
 // What the chip needs for the firmware header.
 pub fn firmware_signature(b: &[u8]) -> Signature
     ensures { λ r. ⌜ r ≡ firmwareSignature (now (b .entry)) ⌝ }
 {
-    firmware_told(vendor_magic_missing(b), b)
+    when_answered(
+        firmware_rows(vendor_magic_missing(b), b),
+        firmware_places(b),
+    )
 }
 
 // The vendor header's, where the first word is given apart: of first, and then the bytes from 4 on.
 pub fn vendor_signature_word_apart(first: [u8; 4], b: &[u8]) -> Signature
     ensures { λ r. ⌜ r ≡ vendorSignature (first ++ drop 4 (now (b .entry))) ⌝ }
 {
-    vendor_told(!starts_with(&first, b"TRZV"), b)
+    when_answered(
+        vendor_rows(!starts_with(&first, b"TRZV"), b),
+        vendor_places(b),
+    )
 }
 
 // The firmware header's, where the first word is given apart.
 pub fn firmware_signature_word_apart(first: [u8; 4], b: &[u8]) -> Signature
     ensures { λ r. ⌜ r ≡ firmwareSignature (first ++ drop 4 (now (b .entry))) ⌝ }
 {
-    firmware_told(!starts_with(&first, b"TRZV"), b)
+    when_answered(
+        firmware_rows(!starts_with(&first, b"TRZV"), b),
+        firmware_places(b),
+    )
 }
