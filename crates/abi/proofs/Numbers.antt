@@ -2,10 +2,9 @@
 -- Assumes nothing.
 use Prim.Native.Nat.{ℕ, _%_, _<_, min}
 use mathlib.Core.Path.{_≡_, refl, ap}
-use mathlib.Core.Bool.{Bool, true, false, not, _&&_}
-use mathlib.Core.List.{List, head}
+use mathlib.Core.Bool.{Bool, true, false, _&&_, and-false}
+use mathlib.Core.List.{List}
 use native.Mathlib.Omega.{arith}
-use native.Mathlib.Nat.{mod-eq-of-lt}
 use lib.Dec.{leb}
 use lib.ListN.{getD}
 use borrow.Author.Tests.{leb-true, leb-false, lt-leb}
@@ -25,10 +24,6 @@ pair-kept : (x : ℕ) → leb x 65535 ≡ true → x % 65536 ≡ x
 pair-kept x h = let l = leb-true x 65535 h in omega arith
 
 -- m and n, cut at 255, are refused where they are refused as they stand
-and-false : (x : Bool) → (x && false) ≡ false
-and-false true = refl
-and-false false = refl
-
 keys-cut : (m n : ℕ) → keysImpossible (min m 255) (min n 255) ≡ keysImpossible m n
 keys-cut m n = go (leb n 8) refl (leb m n) refl
   where

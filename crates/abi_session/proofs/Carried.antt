@@ -10,7 +10,7 @@ use lib.Dec.{eqb, leb}
 use lib.ListN.{length, getD, take, drop, replicate}
 use lib.Seq.{take-all, getD-drop, paste, length-paste}
 use borrow.Author.Tests.{leb-true}
-use Rattle.octets.specs.Read.{u32At, between, bytesAt}
+use Rattle.octets.specs.Read.{u32At, between, bytesAt, startsWith}
 use Rattle.octets.specs.Rounding.{multipleOf}
 use Rattle.octets.specs.Put.{le32}
 use Rattle.octets.proofs.Laws.{and-right, bytes-between}
@@ -19,12 +19,13 @@ use Rattle.flash.specs.Flash.{startsErased}
 use Rattle.image.specs.Check.{checkFile}
 use Rattle.image.specs.declared.Answer.{Answer}
 use Rattle.image.specs.declared.Answer.the-variants.{Accepted, Rejected}
-use Rattle.installer.specs.Record.{over, live, slotLenRight, fileLenRight, pagesOf, sound, erasing, filling, full, newRecord, withPage, withBytes, withPhase}
-use Rattle.installer.specs.Calls.{beginOf, eraseOf, takenBy, joined, wordAt, inFirstWord, filled, fileIn, closeBy, turnOf}
-use Rattle.installer.specs.declared.Session.{Session}
-use Rattle.installer.proofs.Facts.{passed, passed-full}
-use Rattle.abi.specs.Session.{sessionOf, wordsOver, wordsOf, wordsAfter}
-use Rattle.abi.specs.Carried.{WordsCarryTheRecord}
+use Rattle.sessions.specs.Record.{over, live, accepted, slotLenRight, fileLenRight, pagesOf, sound, erasing, filling, full, waiting, newRecord, withPage, withBytes, withPhase}
+use Rattle.sessions.specs.Calls.{beginOf, erasePlan, takenBy, joined, wordAt, inFirstWord, filled, fileIn, closeBy, confirmOf, turnOf}
+use Rattle.sessions.specs.declared.Session.{Session}
+use Rattle.sessions.specs.declared.Plan.{Plan}
+use Rattle.sessions.proofs.Facts.{passed, passed-full}
+use Rattle.abi_session.specs.Record.{sessionOf, wordsOver, wordsOf}
+use Rattle.abi_session.specs.Carried.{CarriesTurn, CarriesPlan, WordsCarryTheRecord}
 
 -- ---- words of four bytes
 
@@ -135,7 +136,7 @@ begin-carried n f = go (slotLenRight n) refl (fileLenRight n f) refl
     go true p false q = rw (p, q) (new-back over 0 0 (omega arith) (omega arith))
     go false p b q = rw p (new-back over 0 0 (omega arith) (omega arith))
 
--- ---- erase, fill and close, on the record that words hold
+-- ---- the other calls, on the record that words hold: those that hand the operation back, and those that make it
 
 -- the first word of a record that words hold is a word
 first-word : (w : List ℕ) → Word (sessionOf w .first)
@@ -153,6 +154,10 @@ joined-word w piece f =
     let s : Session = sessionOf w in
     paste-word (s .held) (s .taken % 4) piece (takenBy s piece) (held-word w) f (omega arith) (omega arith)
 
+-- both forms of a call, by what it plans
+abbrev Carries : List ℕ → Plan → Type 0
+Carries w p = CarriesPlan w p × CarriesTurn w (turnOf p)
+
 module _ (w slot : List ℕ) where
   abbrev s : Session
   s = sessionOf w
@@ -160,16 +165,16 @@ module _ (w slot : List ℕ) where
   abbrev n : ℕ
   n = length slot
 
-  -- the words that erase leaves hold the record that it gave
-  erase-carried : sessionOf (wordsAfter (eraseOf s slot) w) ≡ eraseOf s slot .session
+  erase-carried : Carries w (erasePlan s slot)
   erase-carried = go (erasing s n) refl
     where
-      go : (a : Bool) → erasing s n ≡ a → sessionOf (wordsAfter (eraseOf s slot) w) ≡ eraseOf s slot .session
+      go : (a : Bool) → erasing s n ≡ a → Carries w (erasePlan s slot)
       go true p =
           let f = passed s n (sound s n) (leb (s .pages + 1) (pagesOf n)) refl (ap not p) in
           let more : s .pages + 1 ≤ pagesOf n = leb-true (s .pages + 1) (pagesOf n) (f .1) in
-          rw p (read-back w (withPage s) (omega (arith, f .0)) (first-word w) (held-word w))
-      go false p = rw p
+          let back = read-back w (withPage s) (omega (arith, f .0)) (first-word w) (held-word w) in
+          (rw p back, rw p back)
+      go false p = (rw p, rw p)
 
   -- a record with k bytes more, no more than the file has, is read back
   bytes-back : (k : ℕ) (held first : List ℕ) (stored : ℕ) → filling s n ≡ true → k ≤ s .file - s .taken → stored ≤ 1 → Word held → Word first
@@ -178,35 +183,55 @@ module _ (w slot : List ℕ) where
       let f = passed s n (sound s n) (eqb (s .pages) (pagesOf n)) refl (ap not p) in
       read-back w (withBytes s k held first stored) (omega (arith, f .0)) y x
 
-  -- the words that fill leaves hold the record that it gave, where it takes k bytes, which make the word x
-  fill-carried : (k : ℕ) (x : List ℕ) → k ≤ s .file - s .taken → Word x → sessionOf (wordsAfter (turnOf (filled s k x slot)) w) ≡ turnOf (filled s k x slot) .session
+  -- where it takes k bytes, which make the word x
+  fill-carried : (k : ℕ) (x : List ℕ) → k ≤ s .file - s .taken → Word x → Carries w (filled s k x slot)
   fill-carried k x h v =
       go (filling s n) refl (eqb (s .taken % 4 + k) 4) refl (inFirstWord s) refl (startsErased (drop (wordAt s) slot)) refl
     where
       go : (a : Bool) → filling s n ≡ a → (b : Bool) → eqb (s .taken % 4 + k) 4 ≡ b → (c : Bool) → inFirstWord s ≡ c
-          → (d : Bool) → startsErased (drop (wordAt s) slot) ≡ d → sessionOf (wordsAfter (turnOf (filled s k x slot)) w) ≡ turnOf (filled s k x slot) .session
-      go false p b q c r d e = rw p
-      go true p false q c r d e = rw (p, q) (bytes-back k x (s .first) 0 p h (omega arith) v (first-word w))
-      go true p true q true r d e = rw (p, q, r) (bytes-back k x x 0 p h (omega arith) v v)
-      go true p true q false r true e = rw (p, q, r, e) (bytes-back k x (s .first) 1 p h (omega arith) v (first-word w))
-      go true p true q false r false e = rw (p, q, r, e)
+          → (d : Bool) → startsErased (drop (wordAt s) slot) ≡ d → Carries w (filled s k x slot)
+      go false p b q c r d e = (rw p, rw p)
+      go true p false q c r d e =
+          let back = bytes-back k x (s .first) 0 p h (omega arith) v (first-word w) in
+          (rw (p, q) back, rw (p, q) back)
+      go true p true q true r d e =
+          let back = bytes-back k x x 0 p h (omega arith) v v in
+          (rw (p, q, r) back, rw (p, q, r) back)
+      go true p true q false r true e =
+          let back = bytes-back k x (s .first) 1 p h (omega arith) v (first-word w) in
+          (rw (p, q, r, e) back, rw (p, q, r, e) back)
+      go true p true q false r false e = (rw (p, q, r, e), rw (p, q, r, e))
 
-  -- a session that is over, after at most one operation more, is read back
-  over-back : (operations : ℕ) → full s n ≡ true → operations ≤ s .operations + 1 → sessionOf (wordsOver w (withPhase s over operations)) ≡ withPhase s over operations
-  over-back operations p h =
+  -- a session in another phase, after at most one operation more, is read back
+  phase-back : (phase operations : ℕ) → full s n ≡ true → operations ≤ s .operations + 1 → sessionOf (wordsOver w (withPhase s phase operations)) ≡ withPhase s phase operations
+  phase-back phase operations p h =
       let f = passed-full s n (full s n) refl (ap not p) in
-      read-back w (withPhase s over operations) (omega (arith, f .0)) (first-word w) (held-word w)
+      read-back w (withPhase s phase operations) (omega (arith, f .0)) (first-word w) (held-word w)
 
-  -- the words that close leaves hold the record that it gave, whatever the check answers
-  close-carried : (answer : Answer) → sessionOf (wordsAfter (turnOf (closeBy s answer slot)) w) ≡ turnOf (closeBy s answer slot) .session
+  -- whatever the check answers
+  close-carried : (answer : Answer) → Carries w (closeBy s answer slot)
   close-carried answer = go answer (full s n) refl (startsErased slot) refl
     where
-      go : (answer : Answer) (a : Bool) → full s n ≡ a → (b : Bool) → startsErased slot ≡ b
-          → sessionOf (wordsAfter (turnOf (closeBy s answer slot)) w) ≡ turnOf (closeBy s answer slot) .session
-      go (Accepted i) true p true q = rw (p, q) (over-back (s .operations + 1) p (omega arith))
-      go (Rejected r) true p true q = rw (p, q) (over-back (s .operations) p (omega arith))
-      go answer true p false q = rw (p, q)
-      go answer false p b q = rw p
+      go : (answer : Answer) (a : Bool) → full s n ≡ a → (b : Bool) → startsErased slot ≡ b → Carries w (closeBy s answer slot)
+      go (Accepted i) true p true q =
+          (rw (p, q) (phase-back accepted (s .operations + 1) p (omega arith)), rw (p, q) (phase-back over (s .operations + 1) p (omega arith)))
+      go (Rejected r) true p true q =
+          let back = phase-back over (s .operations) p (omega arith) in
+          (rw (p, q) back, rw (p, q) back)
+      go answer true p false q = (rw (p, q), rw (p, q))
+      go answer false p b q = (rw p, rw p)
+
+  -- an accepted session that is over is read back
+  confirmed-back : waiting s n ≡ true → sessionOf (wordsOver w (withPhase s over (s .operations))) ≡ withPhase s over (s .operations)
+  confirmed-back p = ?
+
+  confirm-carried : CarriesTurn w (confirmOf s slot)
+  confirm-carried = go (waiting s n) refl (startsWith (s .first) slot) refl
+    where
+      go : (a : Bool) → waiting s n ≡ a → (b : Bool) → startsWith (s .first) slot ≡ b → CarriesTurn w (confirmOf s slot)
+      go true p true q = rw (p, q) (confirmed-back p)
+      go true p false q = rw (p, q)
+      go false p b q = rw p
 
 -- ---- all of them
 
@@ -214,8 +239,11 @@ pub words-carry-the-record : WordsCarryTheRecord
 words-carry-the-record =
     record {
       begun = begin-carried;
-      erased = erase-carried;
-      filled = λ w piece slot f.
-          fill-carried w slot (takenBy (sessionOf w) piece) (joined (sessionOf w) piece) (omega arith) (joined-word w piece f);
-      closed = λ w slot given. close-carried w slot (checkFile (fileIn (sessionOf w) slot) given);
+      erased = λ w slot. erase-carried w slot .1;
+      filled = λ w piece slot f. fill-carried w slot (takenBy (sessionOf w) piece) (joined (sessionOf w) piece) (omega arith) (joined-word w piece f) .1;
+      closed = λ w slot given. close-carried w slot (checkFile (fileIn (sessionOf w) slot) given) .1;
+      erasePlanned = λ w slot. erase-carried w slot .0;
+      fillPlanned = λ w piece slot f. fill-carried w slot (takenBy (sessionOf w) piece) (joined (sessionOf w) piece) (omega arith) (joined-word w piece f) .0;
+      closePlanned = λ w slot given. close-carried w slot (checkFile (fileIn (sessionOf w) slot) given) .0;
+      confirmed = confirm-carried;
     }
