@@ -19,10 +19,10 @@ use Rattle.flash.specs.Flash.{startsErased}
 use Rattle.image.specs.Check.{checkFile}
 use Rattle.image.specs.declared.Answer.{Answer}
 use Rattle.image.specs.declared.Answer.the-variants.{Accepted, Rejected}
-use Rattle.installer.specs.Record.{over, live, slotLenRight, fileLenRight, pagesOf, sound, erasing, filling, full, newRecord, withPage, withBytes, withPhase}
-use Rattle.installer.specs.Calls.{beginOf, eraseOf, takenBy, joined, wordAt, inFirstWord, filled, fileIn, closeBy, turnOf}
-use Rattle.installer.specs.declared.Session.{Session}
-use Rattle.installer.proofs.Facts.{passed, passed-full}
+use Rattle.sessions.specs.Record.{over, live, slotLenRight, fileLenRight, pagesOf, sound, erasing, filling, full, newRecord, withPage, withBytes, withPhase}
+use Rattle.sessions.specs.Calls.{beginOf, eraseOf, takenBy, joined, wordAt, inFirstWord, filled, fileIn, closeBy, turnOf}
+use Rattle.sessions.specs.declared.Session.{Session}
+use Rattle.sessions.proofs.Facts.{passed, passed-full}
 use Rattle.abi.specs.Session.{sessionOf, wordsOver, wordsOf, wordsAfter}
 use Rattle.abi.specs.Carried.{WordsCarryTheRecord}
 

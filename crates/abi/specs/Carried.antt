@@ -7,7 +7,7 @@ use mathlib.Core.Path.{_≡_}
 use mathlib.Core.List.{List}
 use lib.ListN.{getD}
 use Rattle.header.specs.declared.Inputs.{Inputs}
-use Rattle.installer.specs.Calls.{beginOf, eraseOf, fillOf, closeOf}
+use Rattle.sessions.specs.Calls.{beginOf, eraseOf, fillOf, closeOf}
 use Rattle.abi.specs.Session.{sessionOf, wordsOf, wordsAfter}
 
 -- for any words at entry, the words at exit hold the record that the call gave. Ask changes no word

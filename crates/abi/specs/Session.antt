@@ -6,11 +6,11 @@ use lib.ListN.{getD, replicate}
 use Rattle.octets.specs.Read.{u32At}
 use Rattle.octets.specs.Put.{le32}
 use Rattle.header.specs.Outcome.{numberOf, whereOf}
-use Rattle.installer.specs.declared.Session.{Session}
-use Rattle.installer.specs.declared.Asked.{Asked}
-use Rattle.installer.specs.declared.Turn.{Turn}
-use Rattle.installer.specs.declared.Reply.{Reply}
-use Rattle.installer.specs.declared.Reply.the-variants.{Begun, Erased, Took, Accepted, Done, Refused, Rejected}
+use Rattle.sessions.specs.declared.Session.{Session}
+use Rattle.sessions.specs.declared.Asked.{Asked}
+use Rattle.sessions.specs.declared.Turn.{Turn}
+use Rattle.sessions.specs.declared.Reply.{Reply}
+use Rattle.sessions.specs.declared.Reply.the-variants.{Begun, Erased, Took, Accepted, Done, Refused, Rejected}
 
 -- the record that words hold. The two words of the file have their least byte first
 unfoldable pub sessionOf : List ℕ → Session

@@ -1,7 +1,7 @@
 // What a digest question answers, as words and bytes: one question alone, and both asked of a session.
 use header::Outcome;
-use installer::Asked;
 use octets::put::put_bytes;
+use sessions::Asked;
 use signing::Digest;
 ghost use mathlib.Core.Path.{_≡_};
 ghost use mathlib.Core.List.{_++_};

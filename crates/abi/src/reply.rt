@@ -2,10 +2,10 @@
 // record.
 use crate::number::count;
 use crate::session::words_over;
-use installer::Reply;
-use installer::Turn;
+use sessions::Reply;
+use sessions::Turn;
 ghost use mathlib.Core.Path.{_≡_};
-ghost use Rattle.installer.specs.Reply.{numberOf, whereOf};
+ghost use Rattle.sessions.specs.Reply.{numberOf, whereOf};
 ghost use Rattle.abi.specs.Session.{wordsOf, wordsOver, recordAfter, wordsAfter, takenWord};
 
 fn number_of(reply: Reply) -> u32

@@ -2,8 +2,8 @@
 use crate::number::bytes_of;
 use crate::number::low;
 use crate::number::whole;
-use installer::Session;
 use octets::u32_at;
+use sessions::Session;
 ghost use mathlib.Core.Path.{_≡_};
 ghost use Rattle.abi.specs.Session.{sessionOf, wordsOver};
 

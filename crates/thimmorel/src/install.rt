@@ -18,9 +18,9 @@ use installer::record::full;
 ghost use mathlib.Core.Path.{_≡_};
 ghost use mathlib.Core.Bool.{cond};
 ghost use lib.ListN.{length};
-ghost use Rattle.installer.specs.Record.{full};
-ghost use Rattle.installer.specs.Calls.{beginOf, eraseOf, eraseSlot, fillOf, fillSlot, askOf, closeOf, closeSlot};
-ghost use Rattle.installer.specs.Reply.{numberOf, whereOf};
+ghost use Rattle.sessions.specs.Record.{full};
+ghost use Rattle.sessions.specs.Calls.{beginOf, eraseOf, eraseSlot, fillOf, fillSlot, askOf, closeOf, closeSlot};
+ghost use Rattle.sessions.specs.Reply.{numberOf, whereOf};
 ghost use Rattle.abi.specs.Words.{inputs};
 ghost use Rattle.abi.specs.Session.{sessionOf, wordsOf, wordsAfter, takenWord, askedWords, askedDigests};
 
