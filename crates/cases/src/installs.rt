@@ -9,11 +9,11 @@ use case_rows::build::fill;
 use case_rows::rows;
 use case_rows::rows::number;
 use case_rows::show;
-use installer::Reply;
-use installer::Session;
-use installer::Turn;
 use octets::part;
 use octets::rest;
+use sessions::Reply;
+use sessions::Session;
+use sessions::Turn;
 use std::num::wrapping_add_usize;
 
 fn is_19(reply: Reply) -> bool {

@@ -5,9 +5,9 @@ use case_images::checks::print_digest;
 use case_rows::rows;
 use case_rows::rows::number;
 use case_rows::show;
-use installer::Reply;
-use installer::Session;
-use installer::Turn;
+use sessions::Reply;
+use sessions::Session;
+use sessions::Turn;
 
 pub fn print_reply(reply: Reply) {
     match reply {

@@ -3,10 +3,10 @@
 use mathlib.Core.Path.{_≡_, ap}
 use Rattle.header.proofs.Told.{told-too, told-beside}
 use Rattle.header.specs.Outcome as outcome
-use Rattle.installer.specs.Reply.{told}
-use Rattle.installer.specs.declared.Turn.{Turn}
-use Rattle.installer.specs.declared.Plan.{Plan}
-use Rattle.installer.specs.declared.Asked.{Asked}
+use Rattle.sessions.specs.Reply.{told}
+use Rattle.sessions.specs.declared.Turn.{Turn}
+use Rattle.sessions.specs.declared.Plan.{Plan}
+use Rattle.sessions.specs.declared.Asked.{Asked}
 
 pub turn-told : {x y : Turn} → x ≡ y → (x ≡ y) × (told (x .reply) ≡ told (y .reply))
 turn-told e = told-too (λ (x : Turn). told (x .reply)) e

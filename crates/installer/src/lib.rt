@@ -9,7 +9,6 @@
 // The calls here write a slot in memory. Those of `plans` read the slot and hand the operation back.
 pub mod plans;
 pub mod record;
-pub mod theorems;
 
 use flash::Operation;
 use flash::Word;
@@ -17,7 +16,6 @@ use flash::bytes_of;
 use flash::erase_page;
 use flash::store_word;
 use header::Inputs;
-use header::Refusal;
 use header::table::refuse;
 use plans::plan_close;
 use plans::plan_erase;
@@ -27,6 +25,11 @@ use record::full;
 use record::new_record;
 use record::slot_len_right;
 use record::with_phase;
+use sessions::Asked;
+use sessions::Plan;
+use sessions::Reply;
+use sessions::Session;
+use sessions::Turn;
 use signing::Digest;
 use signing::firmware_digest_word_apart;
 use signing::vendor_digest_word_apart;
@@ -35,55 +38,8 @@ ghost use lib.ListN.{length};
 ghost use Rattle.flash.specs.Operation.{performed, bytesOf};
 ghost use Rattle.flash.specs.Flash.{firstPageErased, firstWordStored};
 ghost use Rattle.header.specs.Outcome as outcome;
-ghost use Rattle.installer.specs.Reply.{told};
-ghost use Rattle.installer.specs.Calls.{beginOf, eraseOf, eraseSlot, fillOf, fillSlot, noDigest, askOf, turnOf, closeOf, closeSlot};
-
-// A session's record: its phase, the lengths of the slot and of the file as told at begin, pages
-// erased, bytes taken, operations made since begin, the file's first word, and the word in progress.
-// The phase is 0 if the session is over, 1 if it is open, and 2 if a close has accepted the file and
-// word 0 is to be confirmed. Any other number is no phase.
-pub struct Session {
-    pub phase: u32,
-    pub slot: usize,
-    pub file: usize,
-    pub pages: usize,
-    pub taken: usize,
-    pub operations: usize,
-    pub first: [u8; 4],
-    pub held: [u8; 4],
-}
-
-// What a call answers. Accepted is a close over a slot that is only read: the file is accepted, and
-// word 0 is to be stored. Refused is the installer's own refusal, by its number, and Rejected is one
-// of the check, which a close passes on.
-pub enum Reply {
-    Begun,
-    Erased,
-    Took(usize),
-    Accepted,
-    Done,
-    Refused(u32),
-    Rejected(Refusal),
-}
-
-// The record and the answer that a call gives.
-pub struct Turn {
-    pub session: Session,
-    pub reply: Reply,
-}
-
-// The record and the answer that a call gives, and the operation that the caller is to make.
-pub struct Plan {
-    pub session: Session,
-    pub reply: Reply,
-    pub operation: Operation,
-}
-
-// What ask answers: both digest questions over the full file.
-pub struct Asked {
-    pub vendor: Digest,
-    pub firmware: Digest,
-}
+ghost use Rattle.sessions.specs.Reply.{told};
+ghost use Rattle.sessions.specs.Calls.{beginOf, eraseOf, eraseSlot, fillOf, fillSlot, noDigest, askOf, turnOf, closeOf, closeSlot};
 
 // Begins a session on the slot, told the file's length. It touches no flash. 22 if the slot's length
 // is wrong, then 18 if the file's is.

@@ -1,10 +1,6 @@
 // The calls over a slot that is only read (specification, 10.5). Each hands back the operation of the
 // flash in place of making it, for a board whose flash is written by a driver. The calls that write
 // the slot themselves stand on these.
-use crate::Plan;
-use crate::Reply;
-use crate::Session;
-use crate::Turn;
 use crate::record::full;
 use crate::record::sound;
 use crate::record::waiting;
@@ -16,13 +12,17 @@ use header::Inputs;
 use image::Answer;
 use image::check_file_word_apart;
 use octets::starts_with;
+use sessions::Plan;
+use sessions::Reply;
+use sessions::Session;
+use sessions::Turn;
 ghost use mathlib.Core.Path.{_≡_};
 ghost use Prim.Native.Nat.{_+_, _≤_, _<_};
 ghost use lib.ListN.{length};
 ghost use lib.Seq.{paste};
-ghost use Rattle.installer.specs.Record.{withBytes};
-ghost use Rattle.installer.specs.Reply.{told};
-ghost use Rattle.installer.specs.Calls.{plan, refused, erasePlan, takes, fillPlan, judged, closePlan, confirmOf};
+ghost use Rattle.sessions.specs.Record.{withBytes};
+ghost use Rattle.sessions.specs.Reply.{told};
+ghost use Rattle.sessions.specs.Calls.{plan, refused, erasePlan, takes, fillPlan, judged, closePlan, confirmOf};
 
 fn refused(s: Session, number: u32) -> Plan
     ensures { λ r. ⌜ r ≡ refused s number ⌝ }

@@ -1,7 +1,7 @@
 // The session's record, and when it is consistent with a slot (specification, 10.2).
-use crate::Session;
+use sessions::Session;
 ghost use mathlib.Core.Path.{_≡_};
-ghost use Rattle.installer.specs.Record.{slotLenRight, fileLenRight, wordsStored, sound, full, waiting, newRecord, withPhase};
+ghost use Rattle.sessions.specs.Record.{slotLenRight, fileLenRight, wordsStored, sound, full, waiting, newRecord, withPhase};
 
 // Whether a slot's length is one that begin takes.
 pub fn slot_len_right(n: usize) -> bool

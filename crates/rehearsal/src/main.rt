@@ -3,15 +3,13 @@
 // power failed there and it started again: the boot check of the slot as it stands.
 //
 // The writers, the installer and the check are the proved libraries'. That nothing but the old image,
-// the refusal 1 and the new image can show is proved (`installer`, `done_means_landed`). This
+// the refusal 1 and the new image can show is proved (`sessions`, `done_means_landed`). This
 // program lets it be watched. An answer that the install does not expect is printed, and ends it.
 mod images;
 mod table;
 
 use header::Outcome;
 use images::write_image;
-use installer::Reply;
-use installer::Session;
 use installer::ask;
 use installer::begin;
 use installer::close;
@@ -20,6 +18,8 @@ use installer::fill;
 use octets::part;
 use octets::put::put_bytes;
 use octets::rest;
+use sessions::Reply;
+use sessions::Session;
 use signing::Digest;
 use table::Call;
 use table::followed;

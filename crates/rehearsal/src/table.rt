@@ -5,11 +5,11 @@ use image::Answer;
 use image::Version;
 use image::check_file;
 use image::check_slot;
-use installer::Reply;
-use installer::Session;
 use libc::STDOUT_FILENO;
 use octets::minus;
 use octets::part;
+use sessions::Reply;
+use sessions::Session;
 
 // The width of the table's first column.
 const COLUMN: usize = 34;

@@ -12,7 +12,7 @@ use Rattle.header.specs.Trust.{trustOf}
 use Rattle.image.specs.Answer.{imageOf}
 use Rattle.image.specs.Parts.{pictureOf, whenAccepted}
 use Rattle.image.specs.declared.Answer.the-variants.{Accepted}
-use Rattle.installer.specs.Run.{History, made}
+use Rattle.sessions.specs.Run.{History, made}
 use Rattle.header.specs.declared.Inputs.{Inputs}
 
 -- a worked number: what a definition gives, and what the specification says

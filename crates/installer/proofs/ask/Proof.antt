@@ -7,9 +7,9 @@ use mathlib.Core.List.{List}
 use lib.ListN.{length}
 use lib.Seq.{length-take-le}
 use borrow.Author.Needs.{needs}
-use Rattle.installer.specs.Record.{full}
-use Rattle.installer.specs.declared.Session.{Session}
-use Rattle.installer.proofs.Facts.{Sound, passed-full, barred-full}
+use Rattle.sessions.specs.Record.{full}
+use Rattle.sessions.specs.declared.Session.{Session}
+use Rattle.sessions.proofs.Facts.{Sound, passed-full, barred-full}
 use Rattle.installer.proofs.Told.{asked-told}
 use Rattle.installer.proofs.ask.Statement.{statement}
 use Rattle.installer.proofs.ask.Tie as tie

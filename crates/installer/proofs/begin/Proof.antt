@@ -5,10 +5,10 @@ use mathlib.Core.Path.{_≡_, sym, ap, _∙_}
 use lib.ListN.{length}
 use borrow.Author.Needs.{needs}
 use borrow.Author.Tests.{not-true, not-false}
-use Rattle.installer.specs.Record.{slotLenRight, fileLenRight}
-use Rattle.installer.specs.Calls.{turn, beginOf}
-use Rattle.installer.specs.declared.Session.{Session}
-use Rattle.installer.specs.declared.Reply.the-variants.{Begun, Refused}
+use Rattle.sessions.specs.Record.{slotLenRight, fileLenRight}
+use Rattle.sessions.specs.Calls.{turn, beginOf}
+use Rattle.sessions.specs.declared.Session.{Session}
+use Rattle.sessions.specs.declared.Reply.the-variants.{Begun, Refused}
 use Rattle.installer.proofs.Told.{turn-told}
 use Rattle.installer.proofs.begin.Statement.{statement}
 use Rattle.installer.proofs.begin.Tie as tie

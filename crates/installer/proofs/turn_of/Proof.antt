@@ -1,9 +1,9 @@
 -- By the reply's cases.
 use mathlib.Core.Path.{ap}
 use borrow.Author.Needs.{needs}
-use Rattle.installer.specs.Calls.{turn}
-use Rattle.installer.specs.declared.Session.{Session}
-use Rattle.installer.specs.declared.Reply.the-variants.{Done}
+use Rattle.sessions.specs.Calls.{turn}
+use Rattle.sessions.specs.declared.Session.{Session}
+use Rattle.sessions.specs.declared.Reply.the-variants.{Done}
 use Rattle.installer.proofs.turn_of.Statement.{statement}
 use Rattle.installer.proofs.turn_of.Tie as tie
 

@@ -3,9 +3,9 @@ use borrow.Author.Needs.{needs}
 use Rattle.installer.proofs.Told.{turn-told}
 use borrow.Author.Tests.{not-true, not-false}
 use mathlib.Core.Path.{sym, ap, _∙_}
-use Rattle.installer.specs.Calls.{turn}
-use Rattle.installer.specs.declared.Session.{Session}
-use Rattle.installer.specs.declared.Reply.the-variants.{Done}
+use Rattle.sessions.specs.Calls.{turn}
+use Rattle.sessions.specs.declared.Session.{Session}
+use Rattle.sessions.specs.declared.Reply.the-variants.{Done}
 use Rattle.installer.proofs.plans.confirm.Statement.{statement}
 use Rattle.installer.proofs.plans.confirm.Tie as tie
 

@@ -4,10 +4,10 @@ use mathlib.Core.Path.{ap, _∙_}
 use borrow.Author.Needs.{needs}
 use Rattle.flash.specs.declared.Word.{Word}
 use Rattle.flash.specs.declared.Operation.the-variants.{Nothing, StoreWord}
-use Rattle.installer.specs.Record.{accepted, withPhase}
-use Rattle.installer.specs.Calls.{plan}
-use Rattle.installer.specs.declared.Session.{Session}
-use Rattle.installer.specs.declared.Reply.the-variants.{Accepted, Rejected}
+use Rattle.sessions.specs.Record.{accepted, withPhase}
+use Rattle.sessions.specs.Calls.{plan}
+use Rattle.sessions.specs.declared.Session.{Session}
+use Rattle.sessions.specs.declared.Reply.the-variants.{Accepted, Rejected}
 use Rattle.installer.proofs.plans.judged.Statement.{statement}
 use Rattle.installer.proofs.plans.judged.Tie as tie
 

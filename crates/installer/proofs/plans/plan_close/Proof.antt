@@ -8,12 +8,12 @@ use borrow.Author.Tests.{not-true, not-false}
 use lib.ListN.{length}
 use lib.Seq.{length-take-le}
 use denote.Ref.{now}
-use Rattle.installer.specs.declared.Session.{Session}
+use Rattle.sessions.specs.declared.Session.{Session}
 use Rattle.flash.specs.Flash.{startsErased}
 use Rattle.image.specs.Check.{checkFile}
-use Rattle.installer.specs.Record.{full}
-use Rattle.installer.specs.Calls.{fileIn, judged, closePlan}
-use Rattle.installer.proofs.Facts.{Sound, passed-full, barred-full}
+use Rattle.sessions.specs.Record.{full}
+use Rattle.sessions.specs.Calls.{fileIn, judged, closePlan}
+use Rattle.sessions.proofs.Facts.{Sound, passed-full, barred-full}
 use borrow.Author.Needs.{needs}
 use Rattle.installer.proofs.Told.{plan-told}
 use Rattle.installer.proofs.plans.plan_close.Statement.{statement}

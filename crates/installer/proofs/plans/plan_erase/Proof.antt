@@ -7,8 +7,8 @@ use native.Mathlib.Numerals.{add-one}
 use lib.ListN.{length}
 use borrow.Author.Needs.{needs}
 use Rattle.installer.proofs.Told.{plan-told}
-use Rattle.installer.specs.Record.{erasing}
-use Rattle.installer.proofs.Facts.{Sound, passed, barred}
+use Rattle.sessions.specs.Record.{erasing}
+use Rattle.sessions.proofs.Facts.{Sound, passed, barred}
 use Rattle.installer.proofs.plans.plan_erase.Statement.{statement}
 use Rattle.installer.proofs.plans.plan_erase.Tie as tie
 

@@ -7,11 +7,11 @@ use mathlib.Core.Bool.{true, false}
 use borrow.Author.Tests.{ne-eqb, eq-eqb, lt-ltb, le-ltb, not-true, not-false}
 use lib.ListN.{length, drop}
 use denote.Ref.{now}
-use Rattle.installer.specs.declared.Session.{Session}
+use Rattle.sessions.specs.declared.Session.{Session}
 use Rattle.flash.specs.Flash.{startsErased}
-use Rattle.installer.specs.Record.{filling}
-use Rattle.installer.specs.Calls.{inFirstWord}
-use Rattle.installer.proofs.Facts.{Sound, passed, barred}
+use Rattle.sessions.specs.Record.{filling}
+use Rattle.sessions.specs.Calls.{inFirstWord}
+use Rattle.sessions.proofs.Facts.{Sound, passed, barred}
 use Rattle.installer.proofs.Parts.{part-whole}
 use borrow.Author.Needs.{needs}
 use Rattle.installer.proofs.Told.{plan-told}

@@ -1,6 +1,6 @@
 -- The three tests are those of the definition, in its order.
 use mathlib.Core.Path.{refl}
-use Rattle.installer.specs.Record.{fileLenRight}
+use Rattle.sessions.specs.Record.{fileLenRight}
 use Rattle.installer.proofs.record.file_len_right.Statement.{statement}
 use Rattle.installer.proofs.record.file_len_right.Tie as tie
 

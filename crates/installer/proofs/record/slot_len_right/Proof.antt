@@ -1,6 +1,6 @@
 -- The three tests are those of the definition, in its order.
 use mathlib.Core.Path.{refl}
-use Rattle.installer.specs.Record.{slotLenRight}
+use Rattle.sessions.specs.Record.{slotLenRight}
 use Rattle.installer.proofs.record.slot_len_right.Statement.{statement}
 use Rattle.installer.proofs.record.slot_len_right.Tie as tie
 

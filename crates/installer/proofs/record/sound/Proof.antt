@@ -1,7 +1,7 @@
 -- The early return is the first test's failure; past it the tests are those of the definition, in its order.
 use borrow.Author.Needs.{needs}
 use borrow.Author.Tests.{lt-leb, le-leb}
-use Rattle.installer.specs.Record.{sound}
+use Rattle.sessions.specs.Record.{sound}
 use Rattle.installer.proofs.record.sound.Statement.{statement}
 use Rattle.installer.proofs.record.sound.Tie as tie
 

@@ -1,6 +1,6 @@
 -- The tests are those of the definition, in its order.
 use borrow.Author.Needs.{needs}
-use Rattle.installer.specs.Record.{waiting}
+use Rattle.sessions.specs.Record.{waiting}
 use Rattle.installer.proofs.record.waiting.Statement.{statement}
 use Rattle.installer.proofs.record.waiting.Tie as tie
 

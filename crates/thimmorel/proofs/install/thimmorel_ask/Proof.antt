@@ -5,10 +5,10 @@ use mathlib.Core.Bool.{Bool, true, cond}
 use lib.ListN.{length}
 use borrow.Author.Needs.{needs}
 use borrow.Author.Tests.{not-true, not-false}
-use Rattle.installer.specs.Record.{full}
-use Rattle.installer.specs.Calls.{askOf}
-use Rattle.installer.specs.declared.Session.{Session}
-use Rattle.installer.specs.declared.Asked.{Asked}
+use Rattle.sessions.specs.Record.{full}
+use Rattle.sessions.specs.Calls.{askOf}
+use Rattle.sessions.specs.declared.Session.{Session}
+use Rattle.sessions.specs.declared.Asked.{Asked}
 use Rattle.abi.specs.Session.{sessionOf, askedWords, askedDigests}
 use Rattle.thimmorel.proofs.install.thimmorel_ask.Statement.{statement}
 use Rattle.thimmorel.proofs.install.thimmorel_ask.Tie as tie

@@ -1,7 +1,7 @@
 -- What the calls ensure: the turn of `begin`, and what `tell_begun` leaves.
 use mathlib.Core.Path.{ap, _∙_}
-use Rattle.installer.specs.Reply.{numberOf}
-use Rattle.installer.specs.declared.Turn.{Turn}
+use Rattle.sessions.specs.Reply.{numberOf}
+use Rattle.sessions.specs.declared.Turn.{Turn}
 use Rattle.abi.specs.Session.{wordsOf}
 use borrow.Author.Needs.{needs}
 use Rattle.thimmorel.proofs.install.thimmorel_begin.Statement.{statement}

@@ -1,10 +1,10 @@
 -- What the calls ensure: the record that the words hold, the turn and the slot of `close`, and what `tell_closed` leaves.
 use denote.Ref.{now}
 use mathlib.Core.Path.{ap, _∙_}
-use Rattle.installer.specs.Calls.{closeOf, closeSlot}
-use Rattle.installer.specs.Reply.{numberOf, whereOf}
-use Rattle.installer.specs.declared.Session.{Session}
-use Rattle.installer.specs.declared.Turn.{Turn}
+use Rattle.sessions.specs.Calls.{closeOf, closeSlot}
+use Rattle.sessions.specs.Reply.{numberOf, whereOf}
+use Rattle.sessions.specs.declared.Session.{Session}
+use Rattle.sessions.specs.declared.Turn.{Turn}
 use Rattle.abi.specs.Words.{inputs}
 use Rattle.abi.specs.Session.{wordsAfter}
 use borrow.Author.Needs.{needs}

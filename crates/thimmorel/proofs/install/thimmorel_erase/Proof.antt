@@ -1,10 +1,10 @@
 -- What the calls ensure: the record that the words hold, the turn and the slot of `erase`, and what `tell` leaves.
 use denote.Ref.{now}
 use mathlib.Core.Path.{ap, _∙_}
-use Rattle.installer.specs.Calls.{eraseOf, eraseSlot}
-use Rattle.installer.specs.Reply.{numberOf}
-use Rattle.installer.specs.declared.Session.{Session}
-use Rattle.installer.specs.declared.Turn.{Turn}
+use Rattle.sessions.specs.Calls.{eraseOf, eraseSlot}
+use Rattle.sessions.specs.Reply.{numberOf}
+use Rattle.sessions.specs.declared.Session.{Session}
+use Rattle.sessions.specs.declared.Turn.{Turn}
 use Rattle.abi.specs.Session.{wordsAfter}
 use borrow.Author.Needs.{needs}
 use Rattle.thimmorel.proofs.install.thimmorel_erase.Statement.{statement}
