@@ -23,7 +23,7 @@ use Rattle.sessions.specs.Record.{over, live, accepted, slotLenRight, fileLenRi
 use Rattle.sessions.specs.Calls.{beginOf, erasePlan, takenBy, joined, wordAt, inFirstWord, filled, fileIn, closeBy, confirmOf, turnOf}
 use Rattle.sessions.specs.declared.Session.{Session}
 use Rattle.sessions.specs.declared.Plan.{Plan}
-use Rattle.sessions.proofs.Facts.{passed, passed-full}
+use Rattle.sessions.proofs.Facts.{passed, passed-full, waiting-facts}
 use Rattle.abi_session.specs.Record.{sessionOf, wordsOver, wordsOf}
 use Rattle.abi_session.specs.Carried.{CarriesTurn, CarriesPlan, WordsCarryTheRecord}
 
@@ -223,7 +223,9 @@ module _ (w slot : List ℕ) where
 
   -- an accepted session that is over is read back
   confirmed-back : waiting s n ≡ true → sessionOf (wordsOver w (withPhase s over (s .operations))) ≡ withPhase s over (s .operations)
-  confirmed-back p = ?
+  confirmed-back p =
+      let f = waiting-facts s n p in
+      read-back w (withPhase s over (s .operations)) (omega (arith, f, f .lengths)) (first-word w) (held-word w)
 
   confirm-carried : CarriesTurn w (confirmOf s slot)
   confirm-carried = go (waiting s n) refl (startsWith (s .first) slot) refl

@@ -49,7 +49,21 @@ pub fn signatures_words(n: usize, s: Signatures) -> [usize; 16]
     let v = signature_words(n, vendor);
     let f = signature_words(n, firmware);
     [
-        v[0], v[1], v[2], v[3], v[4], v[5], v[6], v[7], f[0], f[1], f[2], f[3], f[4], f[5], f[6],
+        v[0],
+        v[1],
+        v[2],
+        v[3],
+        v[4],
+        v[5],
+        v[6],
+        v[7],
+        f[0],
+        f[1],
+        f[2],
+        f[3],
+        f[4],
+        f[5],
+        f[6],
         f[7],
     ]
 }

@@ -29,9 +29,13 @@ use sessions::Asked;
 use sessions::Plan;
 use sessions::Reply;
 use sessions::Session;
+use sessions::Signatures;
 use sessions::Turn;
 use signing::Digest;
 use signing::firmware_digest_word_apart;
+use signing::places::firmware_signature_word_apart;
+use signing::places::no_signature;
+use signing::places::vendor_signature_word_apart;
 use signing::vendor_digest_word_apart;
 ghost use mathlib.Core.Path.{_≡_};
 ghost use lib.ListN.{length};
@@ -39,7 +43,7 @@ ghost use Rattle.flash.specs.Operation.{performed, bytesOf};
 ghost use Rattle.flash.specs.Flash.{firstPageErased, firstWordStored};
 ghost use Rattle.header.specs.Outcome as outcome;
 ghost use Rattle.sessions.specs.Reply.{told};
-ghost use Rattle.sessions.specs.Calls.{beginOf, eraseOf, eraseSlot, fillOf, fillSlot, noDigest, askOf, turnOf, closeOf, closeSlot};
+ghost use Rattle.sessions.specs.Calls.{beginOf, eraseOf, eraseSlot, fillOf, fillSlot, noDigest, askOf, signaturesOf, turnOf, closeOf, closeSlot};
 
 // Begins a session on the slot, told the file's length. It touches no flash. 22 if the slot's length
 // is wrong, then 18 if the file's is.
@@ -169,6 +173,24 @@ pub fn ask(s: Session, slot: &[u8]) -> Asked
     let vendor = vendor_digest_word_apart(first, &slot[..file]);
     let firmware = firmware_digest_word_apart(first, &slot[..file]);
     Asked { vendor, firmware }
+}
+
+// What the chip needs beside these digests, as places in the slot. There are none unless all bytes are
+// taken.
+pub fn signatures(s: Session, slot: &[u8]) -> Signatures
+    ensures { λ r. ⌜ r ≡ signaturesOf s (now (slot .entry)) ⌝ }
+{
+    let n = slot.len();
+    if !full(s, n) {
+        let vendor = no_signature();
+        let firmware = no_signature();
+        return Signatures { vendor, firmware };
+    }
+    let file = s.file;
+    let first = s.first;
+    let vendor = vendor_signature_word_apart(first, &slot[..file]);
+    let firmware = firmware_signature_word_apart(first, &slot[..file]);
+    Signatures { vendor, firmware }
 }
 
 // Checks the file, its first word from the record, and stores that word if the check accepts: Done.

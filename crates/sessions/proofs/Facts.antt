@@ -130,12 +130,43 @@ sound-test s n f =
 
 -- ---- the tests of `waiting`
 
+abbrev waitingTests : Session → ℕ → List Bool
+waitingTests s n =
+    eqb (s .phase) 2
+    ∷ eqb (s .slot) n
+    ∷ slotLenRight n
+    ∷ fileLenRight n (s .file)
+    ∷ eqb (s .pages) (pagesOf n)
+    ∷ eqb (s .taken) (s .file)
+    ∷ eqb (s .operations) (pagesOf n + s .file / 4)
+    ∷ []
+
+-- the record is that of an accepted session, and consistent with a slot of n bytes
+pub record Waits (s : Session) (n : ℕ) : Type 0 where
+  pub slot : s .slot ≡ n
+  pub lengths : Lengths n (s .file)
+  pub pages : s .pages ≡ pagesOf n
+  pub taken : s .taken ≡ s .file
+  pub operations : s .operations ≡ pagesOf n + s .file / 4
+
+pub waiting-facts : (s : Session) (n : ℕ) → waiting s n ≡ true → Waits s n
+unfolding waiting
+waiting-facts s n e =
+    let h : Each (waitingTests s n) = each (waitingTests s n) e in
+    record {
+      slot = eqb-true _ _ (h .1 .0);
+      lengths = lengths-facts n (s .file) (h .1 .1 .0) (h .1 .1 .1 .0);
+      pages = eqb-true _ _ (h .1 .1 .1 .1 .0);
+      taken = eqb-true _ _ (h .1 .1 .1 .1 .1 .0);
+      operations = eqb-true _ _ (h .1 .1 .1 .1 .1 .1 .0);
+    }
+
 pub waiting-test : (s : Session) (n : ℕ) → s .phase ≡ 2 → s .slot ≡ n → Lengths n (s .file) → s .pages ≡ pagesOf n → s .taken ≡ s .file
     → s .operations ≡ pagesOf n + s .file / 4 → waiting s n ≡ true
 unfolding waiting
 waiting-test s n phase slot lengths pages taken operations =
     let l = lengths-tests n (s .file) lengths in
-    every-of (eqb (s .phase) 2 ∷ eqb (s .slot) n ∷ slotLenRight n ∷ fileLenRight n (s .file) ∷ eqb (s .pages) (pagesOf n) ∷ eqb (s .taken) (s .file) ∷ eqb (s .operations) (pagesOf n + s .file / 4) ∷ [])
+    every-of (waitingTests s n)
     (eq-eqb _ _ phase, (eq-eqb _ _ slot, (l .0, (l .1, (eq-eqb _ _ pages, (eq-eqb _ _ taken, (eq-eqb _ _ operations, tt)))))))
 
 pub not-waiting : (s : Session) (n k : ℕ) → s .phase ≡ k → eqb k 2 ≡ false → waiting s n ≡ false

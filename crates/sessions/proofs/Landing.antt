@@ -17,10 +17,11 @@ use Rattle.image.specs.declared.Image.{Image}
 use Rattle.image.specs.declared.Answer.{Answer}
 use Rattle.image.specs.declared.Answer.the-variants as answer
 use Rattle.signing.specs.Digests.{vendorDigest, firmwareDigest}
+use Rattle.signing.specs.Places.{noSignature, vendorSignature, firmwareSignature}
 use Rattle.image.proofs.Erased.{erased-word-refused, accepted-before-erased}
 use Rattle.sessions.specs.Record.{pagesOf, full}
-use Rattle.sessions.specs.Calls.{takes, asked, noDigest, judged, turnOf}
-use Rattle.sessions.specs.Run.{Call, eraseCall, fillCall, askCall, closeCall, planCloseCall, confirmCall, Point, began, advance, run, after, eraseAnswer, fillAnswer, askAnswer, closeAnswer, planCloseAnswer, confirmAnswer, allErased, allGiven, isFull, adds, doneBy, acceptedBy, pagesErased, slotThen, holding, FillRule, Landed, DoneMeansLanded}
+use Rattle.sessions.specs.Calls.{takes, asked, noDigest, signatures, judged, turnOf}
+use Rattle.sessions.specs.Run.{Call, eraseCall, fillCall, askCall, closeCall, planCloseCall, confirmCall, Point, began, advance, run, after, eraseAnswer, fillAnswer, askAnswer, signaturesAnswer, closeAnswer, planCloseAnswer, confirmAnswer, allErased, allGiven, isFull, adds, doneBy, acceptedBy, pagesErased, slotThen, holding, FillRule, Landed, DoneMeansLanded}
 use Rattle.sessions.specs.declared.Reply.the-variants.{Erased, Took, Accepted, Done, Refused, Rejected}
 use Rattle.sessions.proofs.Slot.{no-page, pages-first, holding-first}
 use Rattle.sessions.proofs.Phases.{Erasing, Filling, Over, Stored, Ended, Waiting, Phase, inErasing, inFilling, isOver, isWaiting, hasEnded, stays-erase, stays-fill, stays-close, stays-plan-close, stays-confirm, began-phase}
@@ -106,14 +107,15 @@ module _ (found : List ℕ) (f : ℕ) where
 
   -- ---- what holds in each phase
 
-  -- where the record is not full, Ask and both forms of Close answer 19
+  -- where the record is not full, Ask and both forms of Close answer 19, and Signatures tells no place
   record Barred (p : Point) : Type 0 where
     pub asks : askAnswer (p .now) ≡ asked noDigest noDigest
+    pub signs : signaturesAnswer (p .now) ≡ signatures noSignature noSignature
     pub closes : (given : Inputs) → closeAnswer given (p .now) ≡ Refused 19
     pub plans : (given : Inputs) → planCloseAnswer given (p .now) ≡ Refused 19
 
   barred-answers : (p : Point) → full (p .now .session) (length (p .now .slot)) ≡ false → Barred p
-  barred-answers p t = record { asks = rw (askAnswer, t); closes = λ given. rw (closeAnswer, t); plans = λ given. rw (planCloseAnswer, t) }
+  barred-answers p t = record { asks = rw (askAnswer, t); signs = rw (signaturesAnswer, t); closes = λ given. rw (closeAnswer, t); plans = λ given. rw (planCloseAnswer, t) }
 
   not-full : (p : Point) → allErased (length found) (p .past) ≡ false → isFull (length found) f (p .past) ≡ false
   not-full p a = rw a
@@ -133,6 +135,7 @@ module _ (found : List ℕ) (f : ℕ) where
     fillRule = λ a. absurd (true≢false (sym a ∙ few));
     takesOne = λ a. absurd (true≢false (sym a ∙ few));
     askAnswers = rw (not-full p few) (b .asks);
+    signaturesAnswers = rw (not-full p few) (b .signs);
     closeAnswers = λ given. rw (not-full p few) (b .closes given);
     planCloseAnswers = λ given. rw (not-full p few) (b .plans given);
     confirmAnswers = rw (e .notStored .waiting, confirmAnswer, confirm-refused p 1 (e .sound .phase) refl);
@@ -174,6 +177,7 @@ module _ (found : List ℕ) (f : ℕ) where
     fillRule = λ a piece. takes-rule (length (p .past .given)) f (length piece) (omega (arith, e .sound .taken, e .taken, e .file));
     takesOne = λ a h piece k. takes-one (length (p .past .given)) f (length piece) h k;
     askAnswers = rw turn (asks (allGiven f (p .past)) refl);
+    signaturesAnswers = rw turn (signs (allGiven f (p .past)) refl);
     closeAnswers = λ given. rw turn (closes given (allGiven f (p .past)) refl);
     planCloseAnswers = λ given. rw turn (plans given (allGiven f (p .past)) refl);
     confirmAnswers = rw (e .notStored .waiting, confirmAnswer, confirm-refused p 1 (e .sound .phase) refl);
@@ -197,6 +201,11 @@ module _ (found : List ℕ) (f : ℕ) where
       asks : (g : Bool) → allGiven f (p .past) ≡ g → askAnswer (p .now) ≡ cond g (asked (vendorDigest (p .past .given)) (firmwareDigest (p .past .given))) (asked noDigest noDigest)
       asks true g = rw (askAnswer, close-allowed found f p e g, file-checked found f p e g)
       asks false g = barred-answers p (close-before-last found f p e g) .asks
+
+      signs : (g : Bool) → allGiven f (p .past) ≡ g
+          → signaturesAnswer (p .now) ≡ cond g (signatures (vendorSignature (p .past .given)) (firmwareSignature (p .past .given))) (signatures noSignature noSignature)
+      signs true g = rw (signaturesAnswer, close-allowed found f p e g, file-checked found f p e g)
+      signs false g = barred-answers p (close-before-last found f p e g) .signs
 
       done : (v : Answer) → turnOf (judged (p .now .session) v) .reply ≡ doneBy v
       done (answer.Accepted i) = refl
@@ -244,6 +253,7 @@ module _ (found : List ℕ) (f : ℕ) where
     fillRule = λ a. absurd (true≢false (sym a ∙ not-open p (o .isOpen)));
     takesOne = λ a. absurd (true≢false (sym a ∙ not-open p (o .isOpen)));
     askAnswers = rw (c .none) (c .barred .asks);
+    signaturesAnswers = rw (c .none) (c .barred .signs);
     closeAnswers = λ given. rw (c .none) (c .barred .closes given);
     planCloseAnswers = λ given. rw (c .none) (c .barred .plans given);
     confirmAnswers = rw (o .notStored .waiting, confirmAnswer, confirm-refused p 0 (o .phase) refl);
@@ -276,6 +286,7 @@ module _ (found : List ℕ) (f : ℕ) where
     fillRule = λ a. absurd (true≢false (sym a ∙ not-open p (o .isOpen)));
     takesOne = λ a. absurd (true≢false (sym a ∙ not-open p (o .isOpen)));
     askAnswers = rw (c .none) (c .barred .asks);
+    signaturesAnswers = rw (c .none) (c .barred .signs);
     closeAnswers = λ given. rw (c .none) (c .barred .closes given);
     planCloseAnswers = λ given. rw (c .none) (c .barred .plans given);
     confirmAnswers = confirms;

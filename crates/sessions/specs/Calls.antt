@@ -19,10 +19,13 @@ use Rattle.image.specs.Check.{checkFile}
 use Rattle.image.specs.declared.Answer.{Answer}
 use Rattle.image.specs.declared.Answer.the-variants as answer
 use Rattle.signing.specs.Digests.{vendorDigest, firmwareDigest}
+use Rattle.signing.specs.Places.{noSignature, vendorSignature, firmwareSignature}
 use Rattle.signing.specs.declared.Digest.{Digest}
+use Rattle.signing.specs.declared.places.Signature.{Signature}
 use Rattle.sessions.specs.Record.{over, live, accepted, slotLenRight, fileLenRight, erasing, filling, full, waiting, newRecord, withPage, withBytes, withPhase}
 use Rattle.sessions.specs.declared.Session.{Session}
 use Rattle.sessions.specs.declared.Asked.{Asked}
+use Rattle.sessions.specs.declared.Signatures.{Signatures}
 use Rattle.sessions.specs.declared.Turn.{Turn}
 use Rattle.sessions.specs.declared.Plan.{Plan}
 use Rattle.sessions.specs.declared.Reply.{Reply}
@@ -104,6 +107,14 @@ asked vendor firmware = record { vendor = vendor; firmware = firmware }
 
 abbrev pub askOf : Session → List ℕ → Asked
 askOf s slot = cond (full s (length slot)) (asked (vendorDigest (fileIn s slot)) (firmwareDigest (fileIn s slot))) (asked noDigest noDigest)
+
+-- Signatures: what the chip needs beside the digests, or nothing
+abbrev pub signatures : Signature → Signature → Signatures
+signatures vendor firmware = record { vendor = vendor; firmware = firmware }
+
+abbrev pub signaturesOf : Session → List ℕ → Signatures
+signaturesOf s slot =
+    cond (full s (length slot)) (signatures (vendorSignature (fileIn s slot)) (firmwareSignature (fileIn s slot))) (signatures noSignature noSignature)
 
 -- Close, where the file check answers so. A refusal is the answer, and the session is over. An acceptance is told, with the store of word 0
 abbrev pub judged : Session → Answer → Plan

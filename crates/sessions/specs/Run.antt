@@ -18,10 +18,12 @@ use Rattle.image.specs.declared.Image.{Image}
 use Rattle.image.specs.declared.Answer.{Answer}
 use Rattle.image.specs.declared.Answer.the-variants as answer
 use Rattle.signing.specs.Digests.{vendorDigest, firmwareDigest}
+use Rattle.signing.specs.Places.{noSignature, vendorSignature, firmwareSignature}
 use Rattle.sessions.specs.Record.{pagesOf, wordsStored}
-use Rattle.sessions.specs.Calls.{beginOf, takes, eraseOf, eraseSlot, fillOf, fillSlot, noDigest, asked, askOf, closeOf, closeSlot, closePlan, slotOf, confirmOf}
+use Rattle.sessions.specs.Calls.{beginOf, takes, eraseOf, eraseSlot, fillOf, fillSlot, noDigest, asked, askOf, signatures, signaturesOf, closeOf, closeSlot, closePlan, slotOf, confirmOf}
 use Rattle.sessions.specs.declared.Session.{Session}
 use Rattle.sessions.specs.declared.Asked.{Asked}
+use Rattle.sessions.specs.declared.Signatures.{Signatures}
 use Rattle.sessions.specs.declared.Reply.{Reply}
 use Rattle.sessions.specs.declared.Reply.the-variants.{Begun, Erased, Took, Accepted, Done, Refused, Rejected}
 
@@ -51,6 +53,10 @@ fillAnswer piece st = fillOf (st .session) piece (st .slot) .reply
 
 abbrev pub askAnswer : State → Asked
 askAnswer st = askOf (st .session) (st .slot)
+
+-- Signatures is no call of the list: like Ask it changes neither record nor slot
+abbrev pub signaturesAnswer : State → Signatures
+signaturesAnswer st = signaturesOf (st .session) (st .slot)
 
 abbrev pub closeAnswer : Inputs → State → Reply
 closeAnswer given st = closeOf (st .session) given (st .slot) .reply
@@ -247,6 +253,8 @@ pub record Landed (found : List ℕ) (f : ℕ) (p : Point) : Type 0 where
   pub takesOne : allErased (length found) (p .past) ≡ true → length (p .past .given) < f → (piece : List ℕ) → 0 < length piece → 0 < adds f (p .past) piece
   -- an Ask is answered with both questions of the file exactly when the session is open, all pages are erased and all bytes given
   pub askAnswers : askAnswer (p .now) ≡ cond (isFull (length found) f (p .past)) (asked (vendorDigest (p .past .given)) (firmwareDigest (p .past .given))) (asked noDigest noDigest)
+  -- and so are the places of its signatures told
+  pub signaturesAnswers : signaturesAnswer (p .now) ≡ cond (isFull (length found) f (p .past)) (signatures (vendorSignature (p .past .given)) (firmwareSignature (p .past .given))) (signatures noSignature noSignature)
   -- a Close then answers as the file check of the file does, with this Close's inputs: Done exactly if it accepts
   pub closeAnswers : (given : Inputs) → closeAnswer given (p .now) ≡ cond (isFull (length found) f (p .past)) (doneBy (checkFile (p .past .given) given)) (Refused 19)
   -- one that hands its operation back answers Accepted in Done's place, and a Confirm after it Done

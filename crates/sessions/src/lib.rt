@@ -8,6 +8,7 @@ pub mod theorems;
 use flash::Operation;
 use header::Refusal;
 use signing::Digest;
+use signing::places::Signature;
 
 // A session's record: its phase, the lengths of the slot and of the file as told at begin, pages
 // erased, bytes taken, operations made since begin, the file's first word, and the word in progress.
@@ -54,4 +55,10 @@ pub struct Plan {
 pub struct Asked {
     pub vendor: Digest,
     pub firmware: Digest,
+}
+
+// What the chip needs for the signatures of the full file, as places in the slot.
+pub struct Signatures {
+    pub vendor: Signature,
+    pub firmware: Signature,
 }

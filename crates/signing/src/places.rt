@@ -27,7 +27,8 @@ pub struct Signature {
     pub n: u32,
 }
 
-fn no_signature() -> Signature
+// No place, and no keys.
+pub fn no_signature() -> Signature
     ensures { λ r. ⌜ r ≡ noSignature ⌝ }
 {
     let none = Span { from: 0, to: 0 };

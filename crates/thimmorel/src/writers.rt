@@ -33,7 +33,10 @@ pub extern "C" fn thimmorel_write_vendor(
     if !vendor_fits(words) {
         return 28;
     }
-    tell(write_vendor(vendor_of(words), keys, string, picture, sig, out), written)
+    tell(
+        write_vendor(vendor_of(words), keys, string, picture, sig, out),
+        written,
+    )
 }
 
 // Writes a firmware header to the start of out, for code that stands behind a vendor header of v
@@ -54,5 +57,8 @@ pub extern "C" fn thimmorel_write_firmware(
     if !firmware_fits(words) {
         return 28;
     }
-    tell(write_firmware(words[0], firmware_of(words), code, sig, out), written)
+    tell(
+        write_firmware(words[0], firmware_of(words), code, sig, out),
+        written,
+    )
 }
