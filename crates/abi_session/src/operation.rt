@@ -5,7 +5,7 @@ use flash::Word;
 use flash::bytes_of;
 use octets::u32_at;
 ghost use mathlib.Core.Path.{_≡_};
-ghost use Prim.Native.Nat.{_%_};
+ghost use Prim.Native.Nat.{_*_, _%_};
 ghost use Rattle.octets.specs.Read.{u32At};
 ghost use Rattle.flash.specs.Operation.{bytesOf};
 ghost use Rattle.abi_session.specs.Answers.{operationWords};
@@ -21,7 +21,7 @@ fn word_number(w: Word) -> u32
 fn page_offset(page: usize) -> u32
     ensures { λ r. ⌜ r ≡ page % 1048576 * 4096 ⌝ }
 {
-    low(page % 1048576 * 4096)
+    (page % 1048576) as u32 * 4096
 }
 
 fn operation_words(operation: Operation) -> [u32; 3]

@@ -7,8 +7,8 @@ use lib.ListN.{length, length-append, drop-of-length-le}
 use borrow.Author.Needs.{needs}
 use Rattle.octets.specs.Put.{splice}
 use Rattle.octets.proofs.Splice.{next, splice-start}
-use Rattle.abi.proofs.digest.put_digests.Statement.{statement}
-use Rattle.abi.proofs.digest.put_digests.Tie as tie
+use Rattle.abi_session.proofs.asked.put_digests.Statement.{statement}
+use Rattle.abi_session.proofs.asked.put_digests.Tie as tie
 
 -- a field that is as long as the buffer is all of it
 all-of-it : (s d : List ℕ) → length d ≤ length s → splice 0 s d ≡ s

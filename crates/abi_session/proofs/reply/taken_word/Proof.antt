@@ -1,7 +1,7 @@
 -- By the cases of the reply; the count is the promise of `count`.
 use borrow.Author.Needs.{needs}
-use Rattle.abi.proofs.reply.taken_word.Statement.{statement}
-use Rattle.abi.proofs.reply.taken_word.Tie as tie
+use Rattle.abi_session.proofs.reply.taken_word.Statement.{statement}
+use Rattle.abi_session.proofs.reply.taken_word.Tie as tie
 
 pub taken-word-spec : {M : Type 1} → statement M
 taken-word-spec =

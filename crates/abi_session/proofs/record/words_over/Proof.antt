@@ -1,8 +1,8 @@
 -- Each word is the promise of its callee; the last eight are read from the old words.
 use borrow.Author.Needs.{needs}
-use Rattle.abi.specs.Session.{wordsOver}
-use Rattle.abi.proofs.session.words_over.Statement.{statement}
-use Rattle.abi.proofs.session.words_over.Tie as tie
+use Rattle.abi_session.specs.Record.{wordsOver}
+use Rattle.abi_session.proofs.record.words_over.Statement.{statement}
+use Rattle.abi_session.proofs.record.words_over.Tie as tie
 
 returns : tie.Need-returns
 unfolding wordsOver

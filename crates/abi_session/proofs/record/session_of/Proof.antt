@@ -1,8 +1,8 @@
 -- Each field is read from its word; the bytes of the two words are the promise of `bytes_of`.
 use borrow.Author.Needs.{needs}
-use Rattle.abi.specs.Session.{sessionOf}
-use Rattle.abi.proofs.session.session_of.Statement.{statement}
-use Rattle.abi.proofs.session.session_of.Tie as tie
+use Rattle.abi_session.specs.Record.{sessionOf}
+use Rattle.abi_session.proofs.record.session_of.Statement.{statement}
+use Rattle.abi_session.proofs.record.session_of.Tie as tie
 
 returns : tie.Need-returns
 unfolding sessionOf
