@@ -17,7 +17,6 @@ use installer::close;
 use installer::erase;
 use installer::fill;
 use installer::record::full;
-use installer::signatures;
 ghost use mathlib.Core.Path.{_≡_};
 ghost use mathlib.Core.Bool.{cond};
 ghost use lib.ListN.{length};

@@ -1,9 +1,9 @@
 -- What the calls ensure: the answer of the question, and what `tell` leaves.
 use denote.Ref.{now}
 use mathlib.Core.Path.{ap, _∙_}
-use Rattle.header.specs.Outcome.{numberOf, whereOf}
+use Rattle.header.specs.Outcome.{numberOf}
 use Rattle.signing.specs.declared.Digest.{Digest}
-use Rattle.abi.specs.Words.{digestBytes}
+use Rattle.abi.specs.Answers.{outcomeWords, digestBytes}
 use borrow.Author.Needs.{needs}
 use Rattle.thimmorel.proofs.digests.thimmorel_firmware_digest.Statement.{statement}
 use Rattle.thimmorel.proofs.digests.thimmorel_firmware_digest.Tie as tie
@@ -15,7 +15,7 @@ returns c =
     let e = k .firmware-digest .ensures .0 in
     let t = c .tell .ensures in (
       t .0 ∙ ap (λ (x : Digest). numberOf (x .outcome)) e,
-      (t .1 .0 ∙ ap (λ (x : Digest). whereOf (x .outcome)) e, t .1 .1 ∙ ap (λ (x : Digest). digestBytes (x .outcome) (x .digest) digest) e),
+      (t .1 .0 ∙ ap (λ (x : Digest). outcomeWords (x .outcome)) e, t .1 .1 ∙ ap (λ (x : Digest). digestBytes (x .outcome) (x .digest) digest) e),
     )
 
 pub thimmorel-firmware-digest-spec : {M : Type 1} → statement M

@@ -2,14 +2,14 @@
 use mathlib.Core.Path.{ap, _∙_}
 use Rattle.sessions.specs.Reply.{numberOf}
 use Rattle.sessions.specs.declared.Turn.{Turn}
-use Rattle.abi.specs.Session.{wordsOf}
+use Rattle.abi_session.specs.Record.{wordsOf}
 use borrow.Author.Needs.{needs}
 use Rattle.thimmorel.proofs.install.thimmorel_begin.Statement.{statement}
 use Rattle.thimmorel.proofs.install.thimmorel_begin.Tie as tie
 
 returns : tie.Need-returns
 returns c =
-    let e = c .before .before .begin .ensures .0 in
+    let e = c .before .before .before .begin .ensures .0 in
     let t = c .tell-begun .ensures in
     (t .0 ∙ ap (λ (x : Turn). numberOf (x .reply)) e, t .1 ∙ ap (λ (x : Turn). wordsOf (x .session)) e)
 
