@@ -1,7 +1,6 @@
 -- The answers are told in any case. By the test the digests are told, or stay.
 use denote.Ref.{now}
 use mathlib.Core.Path.{_≡_, sym, ap, _∙_}
-use mathlib.Core.Bool.{Bool, true, cond}
 use lib.ListN.{length}
 use borrow.Author.Tests.{not-true, not-false}
 use Rattle.sessions.specs.Record.{full}
@@ -11,12 +10,9 @@ use Rattle.sessions.specs.declared.Asked.{Asked}
 use Rattle.abi_session.specs.Record.{sessionOf}
 use Rattle.abi_session.specs.Answers.{askedWords, askedDigests}
 use borrow.Author.Needs.{needs}
+use Rattle.thimmorel.proofs.Laws.{chosen}
 use Rattle.thimmorel.proofs.install.thimmorel_ask.Statement.{statement}
 use Rattle.thimmorel.proofs.install.thimmorel_ask.Tie as tie
-
--- where the test passes
-chosen : {A : Type 0} {t : Bool} {x z : A} (y : A) → t ≡ true → z ≡ x → z ≡ cond t x y
-chosen y e h = rw e h
 
 abbrev held : tie.After-full → tie.After-session-of
 held b = b .before .before .before

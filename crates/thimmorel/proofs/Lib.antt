@@ -1,0 +1,2 @@
+-- The laws that the proofs of thimmorel cite.
+pub mod Laws
