@@ -6,7 +6,6 @@ use case_rows::rows::number;
 use case_rows::show;
 use header::Inputs;
 use header::Outcome;
-use header::trust::trust_of;
 use signing::Digest;
 
 // Time 100, a policy of 2 of 3 and both verdicts yes, unless the row says otherwise.
@@ -54,7 +53,7 @@ fn digests(row: &[u8], image: &[u8]) {
 }
 
 fn trust(row: &[u8]) {
-    let t = trust_of(number(row, rows::TRUST, 1, 0));
+    let t = header::trust::trust_of(number(row, rows::TRUST, 1, 0));
     show::number(rows::SECONDS, t.seconds as usize);
     show::number(rows::RED, t.red as usize);
     show::number(rows::CLICK, t.click as usize);

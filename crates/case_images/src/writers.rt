@@ -2,12 +2,9 @@
 // string and code, and as much of its picture area as the row says. Before each call the output holds
 // bytes of one value, so that a byte which is written where none should be is seen.
 use crate::checks::inputs;
-use case_rows::build::Layout;
-use case_rows::build::fill;
-use case_rows::build::layout_of;
-use case_rows::build::lent;
-use case_rows::build::narrow;
+use case_rows::build;
 use case_rows::rows;
+use case_rows::rows::narrow;
 use case_rows::rows::number;
 use case_rows::show;
 use image::Answer;
@@ -78,7 +75,7 @@ fn firmware_of(header: &[u8], v: u32, code: &[u8], out: &mut [u8]) -> Written {
 }
 
 // Writes the vendor header of a row, with so many bytes of keys and of picture as it says.
-fn vendor_in(row: &[u8], p: Layout, image: &[u8], out: &mut [u8]) -> Written {
+fn vendor_in(row: &[u8], p: build::Layout, image: &[u8], out: &mut [u8]) -> Written {
     let keys = number(row, rows::KEYBYTES, 1, narrow(minus(p.keys, 32))) as usize;
     let area = narrow(minus(minus(p.code, 1089), p.picture));
     let picture = number(row, rows::PICTURE, 1, area) as usize;
@@ -93,7 +90,7 @@ fn vendor_in(row: &[u8], p: Layout, image: &[u8], out: &mut [u8]) -> Written {
 
 // Writes the header of a row, vendor or firmware.
 fn written(kind: usize, row: &[u8], image: &[u8], out: &mut [u8]) -> Written {
-    let p = layout_of(row);
+    let p = build::layout_of(row);
     if kind == rows::VENDOR {
         return vendor_in(row, p, image, out);
     }
@@ -111,7 +108,7 @@ fn print_written(written: Written) {
 // What a writer answers, and the digest of its output, whose bytes were all 165.
 fn write(kind: usize, row: &[u8], image: &[u8], out: &mut [u8]) {
     let len = out.len();
-    fill(out, 0, len, 165);
+    build::fill(out, 0, len, 165);
     print_written(written(kind, row, image, out));
     show::digest(rows::OUTPUT, out);
 }
@@ -140,20 +137,16 @@ fn again(bytes: &[u8], answer: Answer, v: usize, out: &mut [u8]) {
 fn round_trip(row: &[u8], bytes: &[u8], out: &mut [u8]) {
     let v = u32_at(bytes, 4) as usize;
     let answer = image::check_file(bytes, inputs(row));
-    fill(out, 0, v + 1024, 165);
+    build::fill(out, 0, v + 1024, 165);
     again(bytes, answer, v, out);
-    print_same(octets::starts_with(bytes, part(out, 0, v + 1024)));
-    show::answer(answer);
-}
-
-// Whether the headers are the same bytes.
-fn print_same(same: bool) {
+    let same = octets::starts_with(bytes, part(out, 0, v + 1024));
     show::word(if same { rows::SAME } else { rows::OTHER });
+    show::answer(answer);
 }
 
 pub fn answer(kind: usize, row: &[u8], image: &[u8], b: &mut [u8]) {
     if kind == rows::ROUNDTRIP {
-        round_trip(row, lent(row, 0, image), b);
+        round_trip(row, build::lent(row, 0, image), b);
     } else {
         one(kind, row, image, b);
     }

@@ -5,6 +5,7 @@
 // would is not made.
 use crate::rows;
 use crate::rows::number;
+use octets::put;
 
 pub fn set(b: &mut [u8], at: usize, x: u8) {
     if at < b.len() {
@@ -39,21 +40,13 @@ pub fn copy(b: &mut [u8], from: usize, bytes: &[u8]) {
     if b.len() - from < bytes.len() {
         return;
     }
-    octets::put::put_bytes(b, from, bytes);
+    put::put_bytes(b, from, bytes);
 }
 
-// A little-endian word at an offset of the header that starts at a place.
-fn put_word(b: &mut [u8], start: u32, offset: u32, x: u32) {
-    let at = start as usize + offset as usize;
-    set(b, at, octets::put::byte0(x));
-    set(b, at + 1, octets::put::byte1(x));
-    set(b, at + 2, octets::put::byte2(x));
-    set(b, at + 3, octets::put::byte3(x));
-}
-
-// A number modulo 2^32.
-pub fn narrow(x: usize) -> u32 {
-    (x % 4294967296) as u32
+// A little-endian word.
+fn put_word(b: &mut [u8], at: usize, x: u32) {
+    let bytes = [put::byte0(x), put::byte1(x), put::byte2(x), put::byte3(x)];
+    copy(b, at, &bytes);
 }
 
 // The places of an image: where its vendor header ends, its keys, its string from and to, its picture,
@@ -88,20 +81,18 @@ pub fn layout_of(row: &[u8]) -> Layout {
 fn vendor_fields(row: &[u8], v: u32, b: &mut [u8]) {
     let m = number(row, rows::M, 1, 2) % 256;
     let n = number(row, rows::KEYS, 1, 2) % 256;
-    copy(b, 0, b"TRZV");
-    fill(b, 4, 32, 0);
-    put_word(b, 0, 4, v);
-    put_word(b, 0, 12, 0x0809 + 65536 * m + 16777216 * n);
-    put_word(b, 0, 16, 0xFFF6);
+    copy(
+        b,
+        0,
+        b"TRZV\0\0\0\0\0\0\0\0\0\0\0\0\xF6\xFF\0\0\0\0\0\0\0\0\0\0\0\0\0\0",
+    );
+    put_word(b, 4, v);
+    put_word(b, 12, 0x0809 + 65536 * m + 16777216 * n);
 }
 
 // What is no pattern behind them: the string's length, its padding, and a mask of the first two keys.
 fn vendor_areas(row: &[u8], p: Layout, b: &mut [u8]) {
-    set(
-        b,
-        p.keys,
-        octets::put::byte0(number(row, rows::STRING, 1, 4)),
-    );
+    set(b, p.keys, put::byte0(number(row, rows::STRING, 1, 4)));
     fill(b, p.padding, p.picture, 0);
     set(b, octets::minus(p.code, 1089), 3);
 }
@@ -110,38 +101,36 @@ fn vendor_areas(row: &[u8], p: Layout, b: &mut [u8]) {
 // and a mask of the first two keys.
 fn firmware(row: &[u8], v: u32, b: &mut [u8]) {
     let at = v as usize;
-    let zeros = at + 24;
     let mask = at + 959;
     copy(
         b,
         at,
         b"TRZF\x00\x04\0\0\0\0\0\0\0\0\0\0\x01\x02\x03\x04\x05\x06\x07\x08",
     );
-    put_word(b, v, 12, number(row, rows::CODE, 1, 4));
-    fill(b, zeros, mask, 0);
+    put_word(b, at + 12, number(row, rows::CODE, 1, 4));
+    fill(b, at + 24, mask, 0);
     set(b, mask, 3);
 }
 
-// The hash at k, from 0, of an image whose code stands from a place to another. Counted from the
-// image's start, chunks end at the multiples of 131,072, since chunk 1 has room for 131,072 - 1,024 - v
-// bytes.
-fn hash(b: &mut [u8], code: usize, end: usize, k: u32) {
+// The hash at k, from 0, of an image that ends at a place. Counted from the image's start, chunks end at
+// the multiples of 131,072, since chunk 1 has room for 131,072 - 1,024 - v bytes.
+fn hash(b: &mut [u8], v: u32, end: usize, k: u32) {
+    let code = v as usize + 1024;
     let start = 131072 * (k as usize);
-    let at = octets::minus(code, 992) % 4294967296 + 32 * (k as usize);
     let from = if start < code { code } else { start };
     let to = octets::minus(end, octets::minus(end, start + 131072));
     if from < to {
         let digest = blake2s::blake2s(octets::part(b, from, to));
-        copy(b, at, &digest);
+        copy(b, v as usize + 32 + 32 * (k as usize), &digest);
     }
 }
 
 // The first hashes, so many as the row says, otherwise all.
-fn hashes(row: &[u8], code: usize, end: usize, b: &mut [u8]) {
+fn hashes(row: &[u8], v: u32, end: usize, b: &mut [u8]) {
     let count = number(row, rows::HASHED, 1, 16);
     let mut k: u32 = 0;
     while k < count {
-        hash(b, code, end, k);
+        hash(b, v, end, k);
         k += 1;
     }
 }
@@ -149,13 +138,7 @@ fn hashes(row: &[u8], code: usize, end: usize, b: &mut [u8]) {
 // A byte that the row changes.
 fn edit_byte(row: &[u8], word: usize, b: &mut [u8]) {
     let at = number(row, word, 1, 4294967295) as usize;
-    set(b, at, octets::put::byte0(number(row, word, 2, 0)));
-}
-
-// A word that the row changes.
-fn edit_word(row: &[u8], b: &mut [u8]) {
-    let at = number(row, rows::WORD, 1, 4294967295);
-    put_word(b, at, 0, number(row, rows::WORD, 2, 0));
+    set(b, at, put::byte0(number(row, word, 2, 0)));
 }
 
 // A hash that becomes BLAKE2s of nothing.
@@ -165,10 +148,11 @@ fn edit_hash(row: &[u8], v: u32, b: &mut [u8]) {
     copy(b, at, &digest);
 }
 
-// All that the row changes.
+// All that the row changes: a hash, a word and two bytes.
 fn edit(row: &[u8], v: u32, b: &mut [u8]) {
     edit_hash(row, v, b);
-    edit_word(row, b);
+    let at = number(row, rows::WORD, 1, 4294967295) as usize;
+    put_word(b, at, number(row, rows::WORD, 2, 0));
     edit_byte(row, rows::BYTE, b);
     edit_byte(row, rows::AND, b);
 }
@@ -177,14 +161,14 @@ fn headers(row: &[u8], p: Layout, b: &mut [u8]) {
     vendor_fields(row, p.v, b);
     vendor_areas(row, p, b);
     firmware(row, p.v, b);
-    hashes(row, p.code, p.end, b);
+    hashes(row, p.v, p.end, b);
 }
 
 // How many bytes a row lends: so many as it says, otherwise those of the image, and not fewer than
 // `least`.
 fn lent_of(row: &[u8], end: usize, least: usize) -> usize {
     let more = std::num::wrapping_add_usize(end, octets::minus(least, end));
-    number(row, rows::LENT, 1, narrow(more)) as usize
+    number(row, rows::LENT, 1, rows::narrow(more)) as usize
 }
 
 // The image of a row, at the start of a buffer. The bytes behind it are erased, a page or as many as

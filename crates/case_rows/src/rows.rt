@@ -2,7 +2,6 @@
 // what is done; each further word is followed by its numbers, and stands in for a usual number where
 // it is left out. A word that starts with a capital letter is a label, and says which step of the
 // specification the row is about. Answers are written in the same words.
-use octets::byte_at;
 use octets::minus;
 use octets::part;
 use std::num::wrapping_add_usize;
@@ -34,6 +33,8 @@ pub const FIRMWARE: usize = 7;
 pub const BEGIN: usize = 8;
 
 pub const RECORD: usize = 9;
+
+pub const INSTALL: usize = 10;
 
 pub const CROSSED: usize = 11;
 
@@ -143,7 +144,7 @@ pub const UNKNOWN: usize = 63;
 
 // Whether an item of a list starts at a place, where items have x between them.
 pub fn starts(list: &[u8], at: usize, x: u8) -> bool {
-    (at == 0) | (byte_at(list, minus(at, 1)) == x)
+    (at == 0) | (octets::byte_at(list, minus(at, 1)) == x)
 }
 
 // The item that starts at a place.
@@ -198,24 +199,18 @@ fn place(word: &[u8]) -> usize {
     find(&WORDS, word)
 }
 
-// What a row does: the place of its first word. A row with a word that is not in the list is unknown.
+// What a row does: the place of its first word.
 pub fn kind(row: &[u8]) -> usize {
-    let mut i: usize = 0;
-    while i < row.len() {
-        if starts(row, i, b' ') & (b'a' <= row[i]) {
-            if place(item(row, i, b' ')) == UNKNOWN {
-                return UNKNOWN;
-            }
-        }
-        i += 1;
-    }
     place(item(row, 0, b' '))
 }
 
-// The number with one more digit, modulo 2^32.
+// A number modulo 2^32.
+pub fn narrow(x: usize) -> u32 {
+    (x % 4294967296) as u32
+}
+
 fn with_digit(number: u32, digit: u8) -> u32 {
-    let sum = 10 * (number as usize) + minus(digit as usize, 48);
-    (sum % 4294967296) as u32
+    narrow(10 * (number as usize) + minus(digit as usize, 48))
 }
 
 // The number that a text of digits tells.

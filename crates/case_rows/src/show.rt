@@ -1,6 +1,5 @@
 // What the program writes: words and numbers, each with a space before it.
 use crate::rows;
-use crate::rows::nth;
 use header::Refusal;
 use image::Answer;
 use image::Image;
@@ -13,7 +12,7 @@ pub fn text(text: &[u8]) {
 
 pub fn word(word: usize) {
     text(b" ");
-    text(nth(&rows::WORDS, word));
+    text(rows::nth(&rows::WORDS, word));
 }
 
 pub fn number(label: usize, number: usize) {

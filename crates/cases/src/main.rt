@@ -9,31 +9,27 @@ use case_images::writers;
 use case_rows::build;
 use case_rows::rows;
 use case_rows::show;
-use libc::STDIN_FILENO;
 
-// The answer to a row, by the module that its first word stands for.
+// The answer to a row, by what its first word says.
 fn answer(kind: usize, row: &[u8], image: &[u8], b: &mut [u8]) {
     match kind {
         rows::FILE..=rows::TRUST => checks::answer(kind, row, image),
         rows::ROUNDTRIP..=rows::FIRMWARE => writers::answer(kind, row, image, b),
-        rows::BEGIN..=rows::CROSSED => installs::answer(kind, row, image, b),
+        rows::BEGIN => records::begin(row, b),
+        rows::RECORD => records::record(row, image, b),
+        rows::INSTALL..=rows::CROSSED => installs::install(kind, row, image, b),
         _ => show::word(rows::UNKNOWN),
     }
 }
 
+// A blank line or one that starts with `#` is a comment.
 fn row(row: &[u8], image: &mut [u8], b: &mut [u8]) {
+    if (row.len() == 0) | (octets::byte_at(row, 0) == b'#') {
+        return;
+    }
     show::text(b":");
     build::build(row, image);
     answer(rows::kind(row), row, image, b);
-}
-
-// A line: a blank one or one that starts with `#` is a comment.
-fn line(line: &[u8], image: &mut [u8], b: &mut [u8]) {
-    show::text(line);
-    if (line.len() == 0) | (octets::byte_at(line, 0) == b'#') {
-        return;
-    }
-    row(line, image, b);
 }
 
 // The line that starts at a place, if one does.
@@ -41,7 +37,9 @@ fn line_at(text: &[u8], at: usize, image: &mut [u8], b: &mut [u8]) {
     if !rows::starts(text, at, b'\n') {
         return;
     }
-    line(rows::item(text, at, b'\n'), image, b);
+    let line = rows::item(text, at, b'\n');
+    show::text(line);
+    row(line, image, b);
     show::text(b"\n");
 }
 
@@ -54,14 +52,10 @@ fn lines(text: &[u8], image: &mut [u8], b: &mut [u8]) {
 }
 
 // The largest image has 2,097,152 bytes, and a slot of a page more is refused.
-fn answers(text: &[u8]) {
-    let mut image = [0u8; 2101248];
-    let mut b = [0u8; 2101248];
-    lines(text, &mut image, &mut b);
-}
-
 fn main() {
     let mut text = io::large_buffer();
-    let n = io::read_full(STDIN_FILENO, &mut text);
-    answers(&text[..n]);
+    let n = io::read_full(libc::STDIN_FILENO, &mut text);
+    let mut image = [0u8; 2101248];
+    let mut b = [0u8; 2101248];
+    lines(&text[..n], &mut image, &mut b);
 }

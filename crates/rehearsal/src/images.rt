@@ -1,18 +1,15 @@
-// The two images of the rehearsal: a vendor header of 512 bytes, a firmware header of 1,024 and four
-// bytes of code, made by the writers. The chip's verdicts are inputs, so any signature serves.
+// An image of the rehearsal: a vendor header of 512 bytes, a firmware header of 1,024 and four bytes of
+// code, made by the writers. The chip's verdicts are inputs, so any keys and signatures serve. What a
+// writer answers is not looked at: the check of the image tells.
 use image::Version;
-use octets::put::put_bytes;
 use writer::Firmware;
 use writer::Vendor;
-use writer::Written;
 use writer::write_firmware;
 use writer::write_vendor;
-ghost use Prim.Native.Nat.{_≤_};
-ghost use lib.ListN.{length};
 
 // The vendor's two keys both sign firmware, and the first two of the signer's own keys the vendor.
-fn vendor() -> Vendor {
-    Vendor {
+fn vendor_header(out: &mut [u8]) {
+    let vendor = Vendor {
         expiry: 0,
         major: 1,
         minor: 0,
@@ -20,57 +17,35 @@ fn vendor() -> Vendor {
         n: 2,
         trust: 65535,
         mask: 3,
-    }
+    };
+    let keys = [7u8; 64];
+    let sig = [9u8; 64];
+    write_vendor(vendor, &keys, b"Thimmorel", b"", &sig, out);
 }
 
-fn firmware(version: Version) -> Firmware {
-    let fix = version_of(0);
-    Firmware {
-        expiry: 0,
-        version,
-        fix,
-        mask: 3,
-    }
-}
-
-// The version whose major number this is, as 2.0.0.
-fn version_of(major: u8) -> Version {
-    Version {
+// The version is the fix version too.
+fn firmware_header(major: u8, out: &mut [u8]) {
+    let version = Version {
         major,
         minor: 0,
         patch: 0,
         build: 0,
-    }
-}
-
-// The number with which a writer refused, or 0.
-fn refusal_of(written: Written) -> u32 {
-    match written {
-        Written::Header(_) => 0,
-        Written::Not(number) => number,
-    }
-}
-
-fn write_vendor_header(out: &mut [u8]) -> u32 {
-    let keys = [7u8; 64];
+    };
+    let firmware = Firmware {
+        expiry: 0,
+        version,
+        fix: version,
+        mask: 3,
+    };
+    let code = [major; 4];
     let sig = [9u8; 64];
-    refusal_of(write_vendor(vendor(), &keys, b"Thimmorel", b"", &sig, out))
+    write_firmware(512, firmware, &code, &sig, out);
 }
 
-fn write_firmware_header(major: u8, code: &[u8], out: &mut [u8]) -> u32
-    requires { ⌜ 512 ≤ length (now out) ⌝ }
-{
-    let f = firmware(version_of(major));
-    let sig = [9u8; 64];
-    refusal_of(write_firmware(512, f, code, &sig, &mut out[512..]))
-}
-
-// Writes the image of a version with this code. Answers 0, or the number with which a writer refused.
-pub fn write_image(major: u8, code: &[u8; 4], out: &mut [u8; 1540]) -> u32 {
-    let refusal = write_vendor_header(out);
-    if refusal != 0 {
-        return refusal;
-    }
-    put_bytes(out, 1536, code);
-    write_firmware_header(major, code, out)
+// The image of a version, as 2.0.0. Each byte of its code is the version's major number.
+pub fn image_of(major: u8) -> [u8; 1540] {
+    let mut image = [major; 1540];
+    vendor_header(&mut image);
+    firmware_header(major, &mut image[512..]);
+    image
 }

@@ -1,4 +1,7 @@
--- `cases::main` is safe.
+-- `cases::main` is safe: a buffer that is lent has as many bytes as it was made with.
+use Prim.Native.Nat.{ℕ}
+use lib.ListN.{length-replicate}
+use mathlib.Core.Path.{sym}
 use borrow.Author.Needs.{needs}
 use Rattle.cases.proofs.main.Statement.{statement}
 use Rattle.cases.proofs.main.Tie as tie
@@ -12,5 +15,7 @@ main-spec =
     (λ c κs. search needs)
     (λ c. search needs)
     (λ c. search needs)
+    (λ c. sym (length-replicate {0} {A = ℕ} 2101248 0))
+    (λ c. sym (length-replicate {0} {A = ℕ} 2101248 0))
     (λ c κs. search needs)
     (λ c. search needs))
