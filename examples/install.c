@@ -130,7 +130,7 @@ static int go_on(struct report *report, enum step step, uint32_t refusal,
 }
 
 /* Take one piece of the file. A call takes 0 to 4 bytes of it, and plans at most one store. It
-   takes 0 if the piece is used up, or if the file is complete, even if the piece is too long. */
+   takes 0 if the piece is used up, or if the file is complete and the piece has too many bytes. */
 static int fill(struct thimmorel_record *record, const uint8_t *piece, uint64_t length,
 	struct report *report)
 {
