@@ -28,7 +28,7 @@ static const double batch_seconds = 0.001;
 static const double visit_seconds = 0.4;
 enum { PASSES = 10 };
 
-typedef void digest_function(const uint8_t *bytes, size_t length, uint8_t digest[32]);
+typedef void digest_function(const uint8_t *bytes, uint64_t length, uint8_t digest[32]);
 
 struct implementation {
 	const char *name;
@@ -61,7 +61,7 @@ static void openssl_end(void)
 	EVP_MD_free(openssl_algorithm);
 }
 
-static void digest_openssl(const uint8_t *bytes, size_t length, uint8_t digest[32])
+static void digest_openssl(const uint8_t *bytes, uint64_t length, uint8_t digest[32])
 {
 	if (!EVP_DigestInit_ex2(openssl_context, openssl_algorithm, NULL)
 	    || !EVP_DigestUpdate(openssl_context, bytes, length)
@@ -69,7 +69,7 @@ static void digest_openssl(const uint8_t *bytes, size_t length, uint8_t digest[3
 		fail("OpenSSL failed");
 }
 
-static void digest_libb2(const uint8_t *bytes, size_t length, uint8_t digest[32])
+static void digest_libb2(const uint8_t *bytes, uint64_t length, uint8_t digest[32])
 {
 	if (blake2s(digest, bytes, NULL, 32, length, 0) != 0)
 		fail("libb2 failed");

@@ -81,11 +81,11 @@ static void compress(uint32_t h[8], const uint8_t *block, uint64_t t, uint32_t l
 	h[7] ^= v7 ^ v15;
 }
 
-void REFERENCE_DIGEST(const uint8_t *bytes, size_t length, uint8_t digest[32])
+void REFERENCE_DIGEST(const uint8_t *bytes, uint64_t length, uint8_t digest[32])
 {
 	uint8_t last[BLOCK] = { 0 };
 	uint32_t h[8];
-	size_t done = 0;
+	uint64_t done = 0;
 
 	memcpy(h, IV, sizeof h);
 	h[0] ^= 0x01010020;

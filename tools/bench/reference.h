@@ -6,10 +6,9 @@
 #ifndef REFERENCE_H
 #define REFERENCE_H
 
-#include <stddef.h>
 #include <stdint.h>
 
-void reference_gcc(const uint8_t *bytes, size_t length, uint8_t digest[32]);
-void reference_clang(const uint8_t *bytes, size_t length, uint8_t digest[32]);
+void reference_gcc(const uint8_t *bytes, uint64_t length, uint8_t digest[32]);
+void reference_clang(const uint8_t *bytes, uint64_t length, uint8_t digest[32]);
 
 #endif

@@ -11,7 +11,8 @@ from construct import ConstructError, Container
 from trezorlib import firmware, toif
 
 from sides import (FIRMWARE_HEADER, POLICY, SEAL, Differs, Fields, ask, build_signed, check,
-                   check_file, check_slot, chip, firmware_digest, make_key, parts, seals, structure,
+                   check_file, check_slot, chip, find, find_firmware_signature,
+                   find_vendor_signature, firmware_digest, make_key, parts, seals, structure,
                    trust, trust_there, validate, vendor_digest, write, write_signed)
 
 LARGEST = 2_097_152
@@ -114,6 +115,7 @@ def compare(fields, file):
     compare_fields("image", structure(fields, *seals(file)), fw)
     same("vendor digest", ask(vendor_digest, file), firmware.header_digest(fw.vendor_header))
     same("firmware digest", ask(firmware_digest, file), firmware.digest(version, fw))
+    compare_signatures(fields, file)
     compare_answers(fields, file)
     compare_parts(fields, file)
     # The fifth word here, the pairing secret, has no name there.
@@ -130,9 +132,15 @@ def compare_fields(path, expected, parsed):
             same(f"{path}.{name} there", parsed[name], value)
 
 
+def compare_signatures(fields, file):
+    vendor_seal, firmware_seal = seals(file)
+    same("vendor signature here", find(find_vendor_signature, file), (vendor_seal, 0, 0, []))
+    same("firmware signature here", find(find_firmware_signature, file),
+         (firmware_seal, fields.m, len(fields.keys), fields.keys))
+
+
 def compare_answers(fields, file):
-    versions = [int.from_bytes(version, "little") for version in (fields.version, fields.fix)]
-    accepted = "accepted", [fields.v, len(fields.code)] + versions
+    accepted = "accepted", [fields.v, len(fields.code)] + fields.versions()
     last_good_time = min(fields.expiry or LATEST, fields.firmware_expiry or LATEST)
     verdicts = chip(file)
     same("file check", check(check_file, file, last_good_time, verdicts), accepted)

@@ -2,8 +2,7 @@
 There: trezorlib's structures, digests and signatures. Both make an image from the same Fields. It
 assumes that `run` has made target/interop/libthimmorel.so."""
 
-from ctypes import (CDLL, POINTER, c_bool, c_char_p, c_size_t, c_uint8, c_uint16, c_uint32,
-                    create_string_buffer)
+from ctypes import CDLL, POINTER, Structure, c_char_p, c_uint32, c_uint64, create_string_buffer
 from dataclasses import dataclass
 from pathlib import Path
 
@@ -44,6 +43,10 @@ class Fields:
     def __str__(self):
         return (f"n {len(self.keys)}, string of {len(self.string)}, picture of"
                 f" {len(self.picture)}, v {self.v}, code of {len(self.code)}")
+
+    def versions(self):
+        """Version and fix version as words."""
+        return [int.from_bytes(version, "little") for version in (self.version, self.fix)]
 
     def picture_start(self):
         string_end = 32 + 32 * len(self.keys) + 1 + len(self.string)
@@ -92,35 +95,75 @@ def is_signed(digest, seal, m, keys):
 # Here
 
 LIBRARY = CDLL(str(Path(__file__).resolve().parents[2] / "target/interop/libthimmorel.so"))
-WORD, WORDS = c_uint32, POINTER(c_uint32)
-BYTES = c_char_p
-SLICE = [BYTES, c_size_t]
+WORD, LENGTH, BYTES = c_uint32, c_uint64, c_char_p
+SLICE = [BYTES, LENGTH]
+
+
+def struct(*fields):
+    """A struct of the header: each field is its name and its type."""
+    return type("Struct", (Structure,), {"_fields_": fields})
+
+
+def words(names):
+    return struct(*((name, WORD) for name in names.split()))
+
+
+Inputs = words("time m n vendor_verdict firmware_verdict")
+Answer = words("number part chunk")
+Image = words("vendor_length code_length version fix_version")
+Trust = words("seconds red_background click_needed string_shown secret_allowed")
+VendorNumbers = words("expiry major minor m n vtrust sigmask")
+FirmwareNumbers = words("vendor_length expiry version fix_version sigmask")
+Span = struct(("start", LENGTH), ("length", LENGTH))
+Parts = struct(("string", Span), ("picture", Span), ("code", Span))
+Signature = struct(("sigmask", Span), ("sig", Span), ("keys", Span), ("m", LENGTH), ("n", LENGTH))
 
 
 def exported(name, arguments, result=WORD):
+    """A call of the archive. ctypes passes a struct by a pointer where one is declared."""
     call = LIBRARY["thimmorel_" + name]
-    call.argtypes, call.restype = arguments, result
+    call.argtypes = [POINTER(kind) if issubclass(kind, Structure) else kind for kind in arguments]
+    call.restype = result
     return call
 
 
-CHECK = SLICE + [WORD, WORD, WORD, c_bool, c_bool, WORDS, WORDS]
+CHECK = SLICE + [Inputs, Answer, Image]
+WRITTEN = [BYTES] + SLICE + [POINTER(WORD)]
 check_file = exported("check_file", CHECK)
 check_slot = exported("check_slot", CHECK)
-vendor_digest = exported("vendor_digest", SLICE + [WORDS, BYTES])
-firmware_digest = exported("firmware_digest", SLICE + [WORDS, BYTES])
-tell_parts = exported("parts", SLICE + [WORD, POINTER(c_size_t)], None)
-tell_trust = exported("trust", SLICE + [WORDS], None)
-write_vendor = exported("write_vendor", [WORD, c_uint8, c_uint8, c_uint8, c_uint8, c_uint16,
-                        c_uint8] + SLICE + SLICE + SLICE + [BYTES] + SLICE + [WORDS])
-write_firmware = exported("write_firmware", [WORD, WORD, BYTES, BYTES] + SLICE
-                          + [c_uint8, BYTES] + SLICE + [WORDS])
+vendor_digest = exported("vendor_digest", SLICE + [Answer, BYTES])
+firmware_digest = exported("firmware_digest", SLICE + [Answer, BYTES])
+find_vendor_signature = exported("find_vendor_signature", SLICE + [Signature], None)
+find_firmware_signature = exported("find_firmware_signature", SLICE + [Signature], None)
+find_parts = exported("find_parts", SLICE + [WORD, Parts], None)
+read_trust = exported("read_trust", SLICE + [Trust], None)
+write_vendor = exported("write_vendor", [VendorNumbers] + 3 * SLICE + WRITTEN)
+write_firmware = exported("write_firmware", [FirmwareNumbers] + SLICE + WRITTEN)
+
+
+def told(answer):
+    """The fields of a struct."""
+    return [getattr(answer, name) for name, _ in answer._fields_]
+
+
+def taken(file, span):
+    return file[span.start:span.start + span.length]
 
 
 def ask(question, file):
     """The digest that a signature is over, or None."""
     digest = create_string_buffer(32)
-    refused = question(file, len(file), (WORD * 2)(), digest)
+    refused = question(file, len(file), Answer(), digest)
     return None if refused else digest.raw
+
+
+def find(call, file):
+    """What a chip needs beside the digest: sigmask and signature, m of n, and the keys."""
+    at = Signature()
+    call(file, len(file), at)
+    keys = taken(file, at.keys)
+    return (taken(file, at.sigmask) + taken(file, at.sig), at.m, at.n,
+            [keys[start:start + 32] for start in range(0, len(keys), 32)])
 
 
 def seals(file):
@@ -129,53 +172,57 @@ def seals(file):
 
 
 def chip(file):
-    """The verdicts of a signature chip that is given the digests from here."""
-    vendor, header = seals(file)
-    keys = [file[at:at + 32] for at in range(32, 32 + 32 * file[15], 32)]
-    return (is_signed(ask(vendor_digest, file), vendor, POLICY[0], BOOT_KEYS),
-            is_signed(ask(firmware_digest, file), header, file[14], keys))
+    """The verdicts of a signature chip that is given what the archive tells for it."""
+    vendor_seal, _, _, _ = find(find_vendor_signature, file)
+    firmware_seal, m, _, keys = find(find_firmware_signature, file)
+    return (is_signed(ask(vendor_digest, file), vendor_seal, POLICY[0], BOOT_KEYS),
+            is_signed(ask(firmware_digest, file), firmware_seal, m, keys))
 
 
-def check(call, image, time, verdicts):
+def check(call, data, time, verdicts):
     """The answer, and what an acceptance tells: v, code length, version and fix version."""
-    where, told = (WORD * 2)(), (WORD * 4)()
-    number = call(image, len(image), time, *POLICY, *verdicts, where, told)
+    answer, image = Answer(), Image()
+    number = call(data, len(data), Inputs(time, *POLICY, *verdicts), answer, image)
+    if number != answer.number:
+        raise Differs(f"{call.__name__} returns {number} and answers {answer.number}")
     if number:
-        return f"refused {number} part {where[0]} chunk {where[1]}", None
-    return "accepted", list(told)
+        return f"refused {number} part {answer.part} chunk {answer.chunk}", None
+    return "accepted", told(image)
 
 
 def parts(file):
     """The string, the picture area and the code of an accepted image."""
-    at = (c_size_t * 6)()
-    tell_parts(file, len(file), 0, at)
-    return [file[start:start + length] for start, length in zip(at[::2], at[1::2])]
+    at = Parts()
+    find_parts(file, len(file), 0, at)
+    return [taken(file, span) for span in told(at)]
 
 
 def trust(file):
-    told = (WORD * 5)()
-    tell_trust(file, len(file), told)
-    return list(told)
+    reading = Trust()
+    read_trust(file, len(file), reading)
+    return told(reading)
 
 
 def written(writer, room, *arguments):
-    out, length = create_string_buffer(room), (WORD * 1)()
+    out, length = create_string_buffer(room), WORD()
     number = writer(*arguments, out, room, length)
     if number:
         raise Differs(f"{writer.__name__} answers {number}")
-    return out[:length[0]]
+    return out[:length.value]
 
 
 def write(fields, picture, vendor_seal=UNSIGNED, firmware_seal=UNSIGNED):
     """The image by the writers. The picture may be a whole picture area."""
     keys = b"".join(fields.keys)
     vendor = written(
-        write_vendor, 65_536, fields.expiry, *fields.vendor_version, fields.m, len(fields.keys),
-        fields.vtrust, vendor_seal[0], keys, len(keys), fields.string, len(fields.string),
-        picture, len(picture), vendor_seal[1:])
+        write_vendor, 65_536,
+        VendorNumbers(fields.expiry, *fields.vendor_version, fields.m, len(fields.keys),
+                      fields.vtrust, vendor_seal[0]),
+        keys, len(keys), fields.string, len(fields.string), picture, len(picture), vendor_seal[1:])
     header = written(
-        write_firmware, FIRMWARE_HEADER, len(vendor), fields.firmware_expiry, fields.version,
-        fields.fix, fields.code, len(fields.code), firmware_seal[0], firmware_seal[1:])
+        write_firmware, FIRMWARE_HEADER,
+        FirmwareNumbers(len(vendor), fields.firmware_expiry, *fields.versions(), firmware_seal[0]),
+        fields.code, len(fields.code), firmware_seal[1:])
     return vendor + header + fields.code
 
 
