@@ -92,7 +92,7 @@ fn store_at(at: usize, w: Word, slot: &mut [u8])
 }
 
 // Makes an operation on a slot in memory.
-fn perform(operation: Operation, slot: &mut [u8])
+pub fn perform(operation: Operation, slot: &mut [u8])
     ensures { λ r. ⌜ now (slot .exit) ≡ performed operation (now (slot .entry)) ⌝ }
 {
     match operation {

@@ -7,3 +7,4 @@ pub mod Allowed
 pub mod Steps
 pub mod Fills
 pub mod Landing
+pub mod Settled

@@ -2,6 +2,7 @@
 //
 // A call takes the session's record from the caller's sixteen words and writes it back. Any words get
 // an answer, and after a refusal of the installer's own they stay as they were.
+use crate::filling::fill_words;
 use abi::inputs::inputs_of;
 use abi_session::asked::asked_words;
 use abi_session::asked::signatures_words;
@@ -10,12 +11,11 @@ use abi_session::record::session_of;
 use abi_session::reply::tell_answer;
 use abi_session::reply::tell_begun;
 use abi_session::reply::tell_record;
-use abi_session::reply::tell_taken;
 use installer::ask;
 use installer::begin;
 use installer::close;
 use installer::erase;
-use installer::fill;
+use installer::perform;
 use installer::record::full;
 ghost use mathlib.Core.Path.{_≡_};
 ghost use mathlib.Core.Bool.{cond};
@@ -66,12 +66,10 @@ pub extern "C" fn thimmorel_fill(
     ensures { λ r. ⌜ now (slot .exit) ≡ fillSlot (sessionOf (now («record» .entry))) (now (piece .entry)) (now (slot .entry)) ⌝ }
     ensures { λ r. ⌜ now (taken .exit) ≡ takenWord (fillOf (sessionOf (now («record» .entry))) (now (piece .entry)) (now (slot .entry)) .reply) (now (taken .entry)) ⌝ }
 {
-    let words = *record;
-    let turn = fill(session_of(words), piece, slot);
-    let session = turn.session;
-    let reply = turn.reply;
-    tell_taken(reply, taken);
-    tell_record(session, reply, record)
+    let filled = fill_words(record, piece, slot, taken);
+    let operation = filled.operation;
+    perform(operation, slot);
+    filled.number
 }
 
 // Both digest questions over the full file.

@@ -4,6 +4,7 @@
 // `abi_session`, and carries the same promise. A struct of the header is an array here.
 mod check;
 mod digests;
+mod filling;
 mod install;
 mod places;
 mod plans;

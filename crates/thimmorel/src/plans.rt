@@ -1,15 +1,14 @@
 // The installer over a slot that is only read, for C (specification, 10.5). Each call hands back the
 // operation of the flash, which the board makes.
+use crate::filling::fill_words;
 use abi::inputs::inputs_of;
 use abi_session::operation::tell_operation;
 use abi_session::record::session_of;
 use abi_session::reply::tell_answer;
 use abi_session::reply::tell_record;
-use abi_session::reply::tell_taken;
 use installer::plans::confirm;
 use installer::plans::plan_close;
 use installer::plans::plan_erase;
-use installer::plans::plan_fill;
 ghost use mathlib.Core.Path.{_≡_};
 ghost use Rattle.sessions.specs.Calls.{erasePlan, fillPlan, closePlan, confirmOf};
 ghost use Rattle.sessions.specs.Reply.{numberOf};
@@ -51,14 +50,10 @@ pub extern "C" fn thimmorel_plan_fill(
     ensures { λ r. ⌜ now (taken .exit) ≡ takenWord (fillPlan (sessionOf (now («record» .entry))) (now (piece .entry)) (now (slot .entry)) .reply) (now (taken .entry)) ⌝ }
     ensures { λ r. ⌜ now (operation .exit) ≡ operationWords (fillPlan (sessionOf (now («record» .entry))) (now (piece .entry)) (now (slot .entry)) .operation) ⌝ }
 {
-    let words = *record;
-    let plan = plan_fill(session_of(words), piece, slot);
-    let session = plan.session;
-    let reply = plan.reply;
-    let next = plan.operation;
-    tell_taken(reply, taken);
+    let filled = fill_words(record, piece, slot, taken);
+    let next = filled.operation;
     tell_operation(next, operation);
-    tell_record(session, reply, record)
+    filled.number
 }
 
 // Checks the file; if it is accepted, its first word is to be stored, and then confirmed.

@@ -1,42 +1,20 @@
--- What the calls ensure: the record that the words hold, the plan, and what is told of it.
-use denote.Ref.{now}
+-- What the calls ensure: all but the operation by `fill_words`, and the operation as words.
 use mathlib.Core.Path.{ap, _∙_}
-use Rattle.sessions.specs.Calls.{fillPlan}
-use Rattle.sessions.specs.Reply.{numberOf}
-use Rattle.sessions.specs.declared.Session.{Session}
-use Rattle.sessions.specs.declared.Plan.{Plan}
-use Rattle.abi_session.specs.Record.{wordsAfterPlan}
-use Rattle.abi_session.specs.Answers.{takenWord, operationWords}
+use Rattle.flash.specs.declared.Operation.{Operation}
+use Rattle.abi_session.specs.Answers.{operationWords}
 use borrow.Author.Needs.{needs}
 use Rattle.thimmorel.proofs.plans.thimmorel_plan_fill.Statement.{statement}
 use Rattle.thimmorel.proofs.plans.thimmorel_plan_fill.Tie as tie
 
 returns : tie.Need-returns
 returns c =
-    let o = c .before .before in
-    let y = o .before .before in
-    let k = y .before .before .before in
-    let s = k .before in
-    let a = s .before .before .before .before .args in
-    let plan = k .plan-fill .ensures .0 ∙ ap (λ (x : Session). fillPlan x (now (a .piece)) (now (a .slot))) (s .session-of .ensures) in
-    let t = c .tell-record .ensures in (
-      t .0 ∙ ap (λ (x : Plan). numberOf (x .reply)) plan,
-      (
-        t .1 ∙ ap (λ (x : Plan). wordsAfterPlan x (now (a .«record»))) plan,
-        (
-          y .tell-taken .ensures ∙ ap (λ (x : Plan). takenWord (x .reply) (now (a .taken))) plan,
-          o .tell-operation .ensures ∙ ap (λ (x : Plan). operationWords (x .operation)) plan,
-        ),
-      ),
-    )
+    let f = c .before .before .fill-words .ensures in
+    (f .0, (f .1 .1 .0, (f .1 .1 .1, c .tell-operation .ensures ∙ ap (λ (x : Operation). operationWords x) (f .1 .0))))
 
 pub thimmorel-plan-fill-spec : {M : Type 1} → statement M
 thimmorel-plan-fill-spec =
     tie.close
     (tie.spec
-    (λ c κs. search needs)
-    (λ c κs. search needs)
-    (λ c κs. search needs)
     (λ c κs. search needs)
     (λ c κs. search needs)
     returns)
