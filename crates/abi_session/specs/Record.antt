@@ -1,6 +1,7 @@
 -- How a session's record stands in sixteen words, and what the exported calls of the installer leave in them.
 -- Assumes nothing.
 use Prim.Native.Nat.{ℕ, _%_}
+use mathlib.Core.Bool.{Bool, true, false, cond}
 use mathlib.Core.List.{List, [], _∷_}
 use lib.ListN.{getD, replicate}
 use Rattle.octets.specs.Read.{u32At}
@@ -50,19 +51,19 @@ wordsOver old s =
 abbrev pub wordsOf : Session → List ℕ
 wordsOf s = wordsOver (replicate 16 0) s
 
--- after the installer's own refusal the words stay as they were
-abbrev pub recordAfter : Reply → List ℕ → List ℕ → List ℕ
-recordAfter Begun words old = words
-recordAfter Erased words old = words
-recordAfter (Took k) words old = words
-recordAfter Accepted words old = words
-recordAfter Done words old = words
-recordAfter (Refused number) words old = old
-recordAfter (Rejected r) words old = words
+-- the installer's own refusal, and not one of the check
+abbrev pub ownRefusal : Reply → Bool
+ownRefusal Begun = false
+ownRefusal Erased = false
+ownRefusal (Took k) = false
+ownRefusal Accepted = false
+ownRefusal Done = false
+ownRefusal (Refused number) = true
+ownRefusal (Rejected r) = false
 
--- the words after any other call, by its answer and the record that it gives
+-- the words after any other call, by its answer and the record that it gives: after the installer's own refusal they stay as they were
 abbrev pub wordsAfter : Reply → Session → List ℕ → List ℕ
-wordsAfter reply s old = recordAfter reply (wordsOver old s) old
+wordsAfter reply s old = cond (ownRefusal reply) old (wordsOver old s)
 
 abbrev pub wordsAfterTurn : Turn → List ℕ → List ℕ
 wordsAfterTurn t old = wordsAfter (t .reply) (t .session) old

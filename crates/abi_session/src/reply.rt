@@ -5,7 +5,7 @@ use sessions::Reply;
 use sessions::Session;
 ghost use mathlib.Core.Path.{_≡_};
 ghost use Rattle.sessions.specs.Reply.{numberOf};
-ghost use Rattle.abi_session.specs.Record.{wordsOf, recordAfter, wordsAfter};
+ghost use Rattle.abi_session.specs.Record.{wordsOf, ownRefusal, wordsAfter};
 ghost use Rattle.abi_session.specs.Answers.{replyWords, takenWord};
 
 fn reply_words(reply: Reply) -> [u32; 3]
@@ -36,17 +36,17 @@ fn taken_word(reply: Reply, old: [u32; 1]) -> [u32; 1]
     }
 }
 
-fn record_after(reply: Reply, words: [u32; 16], old: [u32; 16]) -> [u32; 16]
-    ensures { λ r. ⌜ r ≡ recordAfter reply words old ⌝ }
+fn own_refusal(reply: Reply) -> bool
+    ensures { λ r. ⌜ r ≡ ownRefusal reply ⌝ }
 {
     match reply {
-        Reply::Begun => words,
-        Reply::Erased => words,
-        Reply::Took(_) => words,
-        Reply::Accepted => words,
-        Reply::Done => words,
-        Reply::Refused(_) => old,
-        Reply::Rejected(_) => words,
+        Reply::Begun => false,
+        Reply::Erased => false,
+        Reply::Took(_) => false,
+        Reply::Accepted => false,
+        Reply::Done => false,
+        Reply::Refused(_) => true,
+        Reply::Rejected(_) => false,
     }
 }
 
@@ -75,11 +75,13 @@ pub fn tell_record(session: Session, reply: Reply, record: &mut [u32; 16]) -> u3
     ensures { λ r. ⌜ r ≡ numberOf reply ⌝ }
     ensures { λ r. ⌜ now («record» .exit) ≡ wordsAfter reply session (now («record» .entry)) ⌝ }
 {
+    let told = reply_words(reply);
+    if own_refusal(reply) {
+        return told[0];
+    }
     let old = *record;
     let words = words_over(old, session);
-    let after = record_after(reply, words, old);
-    *record = after;
-    let told = reply_words(reply);
+    *record = words;
     told[0]
 }
 

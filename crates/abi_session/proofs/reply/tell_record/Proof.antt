@@ -1,22 +1,25 @@
--- The words and the number are what the calls ensure.
+-- By the test: after the installer's own refusal no word was written, and else the words are the promise of `words_over`.
 use denote.Ref.{now}
 use Prim.Native.Nat.{ℕ}
-use mathlib.Core.Path.{ap, _∙_}
+use mathlib.Core.Path.{sym, ap, _∙_}
 use mathlib.Core.List.{List}
 use lib.ListN.{getD}
-use Rattle.abi_session.specs.Record.{recordAfter}
 use borrow.Author.Needs.{needs}
 use Rattle.abi_session.proofs.reply.tell_record.Statement.{statement}
 use Rattle.abi_session.proofs.reply.tell_record.Tie as tie
 
 returns : tie.Need-returns
 returns c =
-    let k = c .before in
-    let w = k .before in
-    let a = w .before .before .args in (
-      ap (λ (x : List ℕ). getD x 0 0) (c .reply-words .ensures),
-      k .record-after .ensures ∙ ap (λ (x : List ℕ). recordAfter (a .reply) x (now (a .«record»))) (w .words-over .ensures),
-    )
+    let b = c .before in
+    let e = sym (b .own-refusal .ensures) ∙ c .if1 .taken in
+    (ap (λ (x : List ℕ). getD x 0 0) (b .before .reply-words .ensures), rw e)
+
+returns-2 : tie.Need-returns-2
+returns-2 c =
+    let d = c .before .before in
+    let b = d .before in
+    let e = sym (b .own-refusal .ensures) ∙ d .if1 .left in
+    (ap (λ (x : List ℕ). getD x 0 0) (b .before .reply-words .ensures), rw e (c .words-over .ensures))
 
 pub tell-record-spec : {M : Type 1} → statement M
 tell-record-spec =
@@ -24,6 +27,8 @@ tell-record-spec =
     (tie.spec
     (λ c κs. search needs)
     (λ c κs. search needs)
+    (λ c. search needs)
+    returns
     (λ c κs. search needs)
     (λ c. search needs)
-    returns)
+    returns-2)
