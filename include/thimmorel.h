@@ -27,8 +27,9 @@ extern "C" {
  * ## Linking
  *
  * `rt staticlib thimmorel` writes `target/staticlib/libthimmorel.a`, for x86-64 Linux. A program
- * includes this header and links the archive. The header is the same for 64-bit and 32-bit
- * machines: every length is a `uint64_t`, and every other number a `uint32_t`.
+ * includes this header and links the archive, which needs `memcpy` and `memset` of the C library
+ * and nothing else. The header is the same for 64-bit and 32-bit machines: the length of a slice
+ * and the places in it are `uint64_t`, and the numbers in structs are `uint32_t`.
  *
  * ## Memory
  *
@@ -47,7 +48,8 @@ extern "C" {
  *
  *  - Bytes need no alignment. Structs and arrays are aligned as C requires.
  *
- *  - The buffers of one call must not overlap, and nothing else may write to them during the call.
+ *  - What a call writes must not overlap anything else that is passed to it, and nothing else may
+ *    write to its buffers during the call. What is only read may overlap.
  *
  * ## Answers
  *
@@ -56,9 +58,9 @@ extern "C" {
  * which operation of the flash is next (`struct thimmorel_operation`). These are always written,
  * and are part of the answer.
  *
- * Everything else that a call writes is an output. A refused call changes no slot byte, no record
- * and no output, with two exceptions: a refused thimmorel_begin() writes its record, and a close
- * that the check refuses ends the session.
+ * Everything else that a call writes is an output. After a refused call every slot byte, the record
+ * and every output are as they were, with two exceptions: a refused thimmorel_begin() writes its
+ * record, and a close that the check refuses ends the session.
  *
  * ## The image
  *
@@ -122,9 +124,7 @@ extern "C" {
 #define THIMMOREL_WORD_SIZE 4u
 #define THIMMOREL_SLOT_MAX 2097152u
 #define THIMMOREL_FILE_MIN 1540u
-
-/** The number of words in a record. */
-#define THIMMOREL_RECORD_WORDS 16u
+#define THIMMOREL_RECORD_SIZE 64u
 
 /** A verdict that is yes. Any other word is no. */
 #define THIMMOREL_YES 1u
@@ -196,6 +196,14 @@ enum thimmorel_part {
 	THIMMOREL_PART_VENDOR_HEADER = 1,
 	THIMMOREL_PART_FIRMWARE_HEADER = 2,
 	THIMMOREL_PART_CODE = 3
+};
+
+/** \brief The phase of a session. */
+enum thimmorel_phase {
+	THIMMOREL_PHASE_OVER = 0,
+	THIMMOREL_PHASE_OPEN = 1,
+	/** The file is accepted, and its first word is to be stored and confirmed. */
+	THIMMOREL_PHASE_ACCEPTED = 2
 };
 
 /** \brief An operation of the flash. */
@@ -312,7 +320,7 @@ struct thimmorel_firmware_numbers {
 
 /** \brief The record of an install. See "Installing" below. */
 struct thimmorel_record {
-	/** 1 if the session is open, 2 if its file is accepted and not confirmed yet, 0 if it is over. */
+	/** One of `enum thimmorel_phase`. */
 	uint32_t phase;
 	uint32_t slot_length;
 	uint32_t file_length;
@@ -320,7 +328,7 @@ struct thimmorel_record {
 	uint32_t pages_erased;
 	/** Bytes taken, of file_length. */
 	uint32_t bytes_taken;
-	/** Operations of the flash since begin. At Done they are slot_length / 4,096 + file_length / 4. */
+	/** Operations since begin. At Done they are slot_length / 4,096 + file_length / 4. */
 	uint32_t operations;
 	/** The first word of the file once it is complete, its first byte in the low 8 bits. */
 	uint32_t first_word;
@@ -574,7 +582,9 @@ uint32_t thimmorel_write_vendor(const struct thimmorel_vendor_numbers *numbers,
  * \param code_length   the number of its bytes.
  * \param sig           the signature of this header.
  * \param out           the output. On success its first 1,024 bytes are the header, and the bytes
- *                      past them are unchanged. After a refusal all are unchanged.
+ *                      past them are unchanged. After a refusal all are unchanged. Where the code
+ *                      already follows the header, pass 1,024 and not the rest of the file: the
+ *                      output must not overlap the code.
  * \param out_length    the number of its bytes.
  * \param written       written only on success: 1,024.
  * \return 0, or the refusal.
@@ -597,7 +607,8 @@ uint32_t thimmorel_write_firmware(const struct thimmorel_firmware_numbers *numbe
  *
  *  2. Erase, once for each page of the slot.
  *
- *  3. Fill, until all bytes of the file are taken.
+ *  3. Fill, until all bytes of the file are taken: `bytes_taken` of the record is then its
+ *     `file_length`, and a fill takes 0 bytes, however long the piece is.
  *
  *  4. thimmorel_ask() for the digests and thimmorel_find_signatures() for what else the chip needs;
  *     the chip then gives its verdicts.
@@ -620,7 +631,11 @@ uint32_t thimmorel_write_firmware(const struct thimmorel_firmware_numbers *numbe
  * operation. Once that is made, thimmorel_confirm() reads the slot, and its 0 is Done. No call
  * returns 0 for Done before the first word stands in the slot.
  *
- * If an operation fails, or the power does, drop the record and begin again.
+ * If an operation fails, or the power does, drop the record and begin again. The calls see the slot
+ * and not the driver: fill and close refuse a word that they would store over and that is not
+ * erased, and thimmorel_confirm() reads the first word. A driver that reports success for an
+ * operation that it did not make can otherwise go unnoticed. So read each operation back, as the
+ * Rust installer of this library does, or ask thimmorel_check_slot() once more after Done.
  *
  * `examples/install.c` is a whole install with a driver that can fail.
  *
@@ -632,7 +647,7 @@ uint32_t thimmorel_write_firmware(const struct thimmorel_firmware_numbers *numbe
  *
  * Any words are allowed and get an answer. A call answers 19
  *
- *  - if the phase is not 1, or for thimmorel_confirm() not 2;
+ *  - if the phase is not open, or for thimmorel_confirm() not accepted;
  *
  *  - if the slot's length is not that at begin;
  *
@@ -753,8 +768,8 @@ void thimmorel_find_signatures(const struct thimmorel_record *record, const uint
  *
  *  - the check's refusal. The slot is unchanged, and the session is over.
  *
- * \param record        the session. If the check ran, the phase becomes 0, and at Done the session
- *                      counts one more operation. Nothing else in it changes.
+ * \param record        the session. If the check ran, the phase becomes THIMMOREL_PHASE_OVER, and at
+ *                      Done the session counts one more operation. Nothing else in it changes.
  * \param slot          the slot. At Done its first word is the file's. After a refusal it is
  *                      unchanged.
  * \param slot_length   the number of its bytes.
@@ -806,8 +821,8 @@ uint32_t thimmorel_plan_fill(struct thimmorel_record *record, const uint8_t *pie
  * \brief Check the new file and, if it is accepted, plan the store of its first word.
  *
  * The check and the refusals are those of thimmorel_close(). A return value of 0 is not Done: it
- * says that the file is accepted. The phase is then 2, and the record counts the operation. Make
- * it, and call thimmorel_confirm().
+ * says that the file is accepted. The phase is then THIMMOREL_PHASE_ACCEPTED, and the record counts
+ * the operation. Make it, and call thimmorel_confirm().
  *
  * \param record        the session. A refusal leaves it as thimmorel_close() does.
  * \param slot          the slot. It is only read.
@@ -828,13 +843,13 @@ uint32_t thimmorel_plan_close(struct thimmorel_record *record, const uint8_t *sl
  *
  * The call reads the slot's first word. Refusals, in order:
  *
- *  - 19 if no accepted file waits for it: the phase is not 2, or the record is inconsistent;
+ *  - 19 if no accepted file waits for it: the phase is another, or the record is inconsistent;
  *
  *  - 27 if the slot does not start with the file's first word: the operation of
  *    thimmorel_plan_close() was not made, or failed.
  *
- * \param record        the session. On success its phase becomes 0, and nothing else changes. After
- *                      a refusal it is unchanged.
+ * \param record        the session. On success its phase becomes THIMMOREL_PHASE_OVER, and nothing
+ *                      else changes. After a refusal it is unchanged.
  * \param slot          the slot. It is only read.
  * \param slot_length   the number of its bytes.
  * \return 0, which is Done, or the refusal.
