@@ -768,8 +768,8 @@ void thimmorel_find_signatures(const struct thimmorel_record *record, const uint
  *
  *  - the check's refusal. The slot is unchanged, and the session is over.
  *
- * \param record        the session. If the check ran, the phase becomes THIMMOREL_PHASE_OVER, and at
- *                      Done the session counts one more operation. Nothing else in it changes.
+ * \param record        the session. If the check ran, the phase becomes THIMMOREL_PHASE_OVER, and
+ *                      at Done the session counts one more operation. Nothing else in it changes.
  * \param slot          the slot. At Done its first word is the file's. After a refusal it is
  *                      unchanged.
  * \param slot_length   the number of its bytes.

@@ -219,7 +219,7 @@ static void ask(void)
 static void expect_inconsistent(void)
 {
 	struct thimmorel_record now;
-	uint32_t words[THIMMOREL_RECORD_WORDS];
+	uint32_t words[THIMMOREL_RECORD_SIZE / sizeof(uint32_t)];
 	int i;
 
 	for (i = 0; i < 6; i++) {
