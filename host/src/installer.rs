@@ -2,7 +2,7 @@
 
 use crate::check::Inputs;
 use crate::flash::{Flash, Operation};
-use crate::refusal::Refusal;
+use crate::refusal::{Reason, Refusal};
 use crate::session::{Digests, Progress, Session, Signatures};
 use crate::{PAGE_SIZE, WORD_SIZE};
 use core::error::Error;
@@ -207,8 +207,12 @@ impl<F: Flash> Installer<F> {
         self.flash
     }
 
-    /// The session, and the slot as it is read. The session is dropped if it cannot be.
+    /// The session, and the slot as it is read. The session is dropped if it cannot be. Once it is
+    /// over, the flash is not touched.
     fn parts(&mut self) -> Result<(&mut Session, &[u8]), InstallError<F::Error>> {
+        if self.session.is_over() {
+            return Err(Refusal::of(Reason::Turn).into());
+        }
         match self.flash.bytes() {
             Ok(slot) => Ok((&mut self.session, slot)),
             Err(error) => {

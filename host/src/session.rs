@@ -124,6 +124,11 @@ impl Session {
         }
     }
 
+    /// Whether the session is over: Done, refused by the check, or dropped.
+    pub fn is_over(&self) -> bool {
+        self.record.phase == 0
+    }
+
     /// Erases the next page of the slot, from the first up.
     ///
     /// # Errors

@@ -5,7 +5,7 @@
 mod model;
 
 use model::blake2s::blake2s;
-use model::image::{check, parts, trust, vendor_digest, Form, Inputs, Refusal};
+use model::image::{check, parts, trust, vendor_digest, Form, Inputs, Refusal, YES};
 use model::installer;
 use model::program::inspect;
 use model::writer::{firmware_header, vendor_header, FirmwareFields, VendorFields};
@@ -14,8 +14,8 @@ const INPUTS: Inputs = Inputs {
     time: 0,
     m: 2,
     n: 3,
-    vendor: true,
-    firmware: true,
+    vendor: YES,
+    firmware: YES,
 };
 
 fn refusal(number: u32, part: u32) -> Refusal {
@@ -28,7 +28,7 @@ fn refusal(number: u32, part: u32) -> Refusal {
 }
 
 /// A vendor header for policy 2 of 3, with keys for 2 of `n`, and no picture.
-fn vendor(n: u8, string: usize) -> VendorFields {
+fn vendor(n: u32, string: usize) -> VendorFields {
     VendorFields {
         expiry: 0,
         major: 1,
@@ -37,7 +37,7 @@ fn vendor(n: u8, string: usize) -> VendorFields {
         n,
         vtrust: 0xffff,
         sigmask: 0x03,
-        keys: vec![7; 32 * usize::from(n)],
+        keys: vec![7; 32 * n as usize],
         string: vec![b'a'; string],
         picture: Vec::new(),
         sig: [1; 64],
