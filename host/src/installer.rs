@@ -86,7 +86,8 @@ impl<E: fmt::Display> fmt::Display for InstallError<E> {
 impl<E: Error> Error for InstallError<E> {}
 
 impl<F: Flash> Installer<F> {
-    /// Begins to install a file of this length. The flash is not written.
+    /// Begins to install a file of this length. The flash is not written. It may be lent as `&mut`,
+    /// so that it is not lost if begin fails.
     ///
     /// # Errors
     ///

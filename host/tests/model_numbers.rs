@@ -6,7 +6,7 @@ mod model;
 
 use model::blake2s::blake2s;
 use model::image::{check, parts, trust, vendor_digest, Form, Inputs, Refusal, YES};
-use model::installer;
+use model::installer::{self, Operation};
 use model::program::inspect;
 use model::writer::{firmware_header, vendor_header, FirmwareFields, VendorFields};
 
@@ -180,6 +180,38 @@ fn p12_operations() {
     assert_eq!(record.operations, 401);
     assert_eq!(slot[..1_540], file);
     assert!(slot[1_540..].iter().all(|byte| *byte == 255));
+}
+
+/// The same by calls that hand their operation back (specification, 10.5).
+#[test]
+fn p12_operations_of_a_driver() {
+    let file = image();
+    let mut slot = vec![0; 65_536];
+    let (_, mut record) = installer::begin(slot.len(), file.len());
+    let mut made = 0;
+    while let Ok(operation) = installer::plan_erase(&mut record, &slot) {
+        operation.make(&mut slot);
+        made += 1;
+    }
+    for piece in file.chunks(4) {
+        let answer = installer::plan_fill(&mut record, piece, &slot);
+        let (taken, operation) = answer.expect("it is open");
+        assert_eq!(taken, 4);
+        operation.make(&mut slot);
+        made += u32::from(operation != Operation::Nothing);
+    }
+    assert_eq!(made, 400);
+    assert_eq!(installer::confirm(&mut record, &slot), Err(19));
+    let operation = installer::plan_close(&mut record, &slot, &INPUTS).expect("it is good");
+    let first = file[..4].try_into().expect("four bytes");
+    assert_eq!(operation, Operation::StoreWord(0, first));
+
+    assert_eq!(installer::confirm(&mut record, &slot), Err(27));
+    operation.make(&mut slot);
+    assert_eq!(installer::confirm(&mut record, &slot), Ok(()));
+    assert_eq!(installer::confirm(&mut record, &slot), Err(19));
+    assert_eq!(record.operations, 401);
+    assert_eq!(slot[..1_540], file);
 }
 
 /// The code need not be there: S16 comes before S21.

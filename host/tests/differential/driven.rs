@@ -127,7 +127,6 @@ impl Case {
         assert_eq!(answer, Err(error), "{fault:?} at {operation}");
         assert_eq!(installer.flash().operations(), operation);
         assert_dropped(&mut installer, inputs(&self.inputs));
-        drop(installer);
 
         let made = match fault {
             Fault::CutAfter => operation,
@@ -313,39 +312,4 @@ fn a_first_word_that_fades() {
     let answer = install(&mut installer, &case.file, inputs(&case.inputs));
     assert_eq!(answer, Err(InstallError::Refused(alone(27))));
     assert_dropped(&mut installer, inputs(&case.inputs));
-}
-
-#[test]
-fn the_rules_of_the_simulated_flash() {
-    let mut slot = [7; SLOT];
-    let mut flash = SimulatedFlash::new(&mut slot);
-    let no_place = |offset| Err(SimulatedError::NoSuchPlace { offset });
-    for offset in [4, 4_095, SLOT, usize::MAX - 4_095] {
-        assert_eq!(flash.erase_page(offset), no_place(offset));
-    }
-    for offset in [1, 4_098, SLOT, usize::MAX - 3] {
-        assert_eq!(flash.store_word(offset, [1; 4]), no_place(offset));
-    }
-    let not_erased = Err(SimulatedError::NotErased { offset: 4_096 });
-    assert_eq!(flash.store_word(4_096, [7; 4]), not_erased);
-    assert_eq!(flash.erase_page(4_096), Ok(()));
-    assert_eq!(flash.store_word(4_096, [1, 2, 3, 4]), Ok(()));
-    assert_eq!(flash.store_word(4_096, [1, 2, 3, 4]), not_erased);
-    assert_eq!(flash.operations(), 12);
-    assert_eq!(slot[..4_096], [7; 4_096]);
-    assert_eq!(slot[4_096..4_100], [1, 2, 3, 4]);
-    assert_eq!(slot[4_100..], [255; 4_092]);
-}
-
-#[test]
-fn how_an_error_reads() {
-    let failed = InstallError::Flash(SimulatedError::PowerLost);
-    assert_eq!(failed.to_string(), "the flash failed: there is no power");
-    let failed = InstallError::<SimulatedError>::NotLanded { offset: 4_096 };
-    assert_eq!(
-        failed.to_string(),
-        "the flash does not hold what was written at 4096"
-    );
-    let failed = InstallError::<SimulatedError>::Refused(alone(21));
-    assert_eq!(failed.to_string(), alone(21).to_string());
 }
