@@ -102,7 +102,7 @@ fn s5(draft: &mut Draft, _: Form, random: &mut Random) {
 }
 
 fn s6(draft: &mut Draft, _: Form, random: &mut Random) {
-    let (m, n) = (draft.vendor[14], draft.vendor[15]);
+    let (m, n) = (draft.fields.m as u8, draft.fields.n as u8);
     let impossible = [
         (0, n),
         (n + 1, n),

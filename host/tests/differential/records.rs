@@ -76,7 +76,7 @@ fn count_each_call(moment: &Moment, random: &mut Random, tally: &mut Tally<Outco
 fn words_at_random() {
     let mut random = Random::new(501);
     let mut tally = Tally::new("calls on random words");
-    for _ in 0..cases(50_000) {
+    for _ in 0..cases(100_000) {
         let moment = Moment::impossible(&mut random);
         count_each_call(&moment, &mut random, &mut tally);
     }
@@ -87,7 +87,7 @@ fn words_at_random() {
 fn records_that_a_session_reaches() {
     let mut random = Random::new(502);
     let mut tally = Tally::new("calls on live records");
-    for _ in 0..cases(60_000) {
+    for _ in 0..cases(100_000) {
         let moment = Moment::live(&mut random);
         count_each_call(&moment, &mut random, &mut tally);
     }
