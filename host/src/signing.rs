@@ -142,3 +142,63 @@ pub fn firmware_signature(bytes: &[u8]) -> Option<Signature<'_>> {
     }
     Signature::at(bytes, &found)
 }
+
+#[cfg(test)]
+mod tests {
+    use super::{ffi, Signature};
+
+    fn span(start: u64, length: u64) -> ffi::Span {
+        ffi::Span { start, length }
+    }
+
+    const fn good() -> ffi::Signature {
+        ffi::Signature {
+            sigmask: ffi::Span {
+                start: 0,
+                length: 1,
+            },
+            sig: ffi::Span {
+                start: 1,
+                length: 64,
+            },
+            keys: ffi::Span {
+                start: 65,
+                length: 64,
+            },
+            m: 1,
+            n: 2,
+        }
+    }
+
+    /// Whatever the archive tells, there is a signature or none.
+    #[test]
+    fn places_that_do_not_fit() {
+        let bytes = [7; 129];
+        let found = Signature::at(&bytes, &good()).expect("it fits");
+        assert_eq!((found.sigmask, found.sig), (7, &[7; 64]));
+        assert_eq!((found.keys, found.m, found.n), (&[[7; 32]; 2][..], 1, 2));
+        assert_eq!(Signature::at(&bytes[..128], &good()), None);
+
+        for sigmask in [span(0, 0), span(0, 2), span(129, 1), span(u64::MAX, 1)] {
+            assert_eq!(
+                Signature::at(&bytes, &ffi::Signature { sigmask, ..good() }),
+                None
+            );
+        }
+        for sig in [span(0, 0), span(0, 63), span(66, 64), span(1, u64::MAX)] {
+            assert_eq!(
+                Signature::at(&bytes, &ffi::Signature { sig, ..good() }),
+                None
+            );
+        }
+        for keys in [span(65, 33), span(130, 0), span(u64::MAX, u64::MAX)] {
+            assert_eq!(
+                Signature::at(&bytes, &ffi::Signature { keys, ..good() }),
+                None
+            );
+        }
+        let (m, n) = (1 << 32, u64::MAX);
+        assert_eq!(Signature::at(&bytes, &ffi::Signature { m, ..good() }), None);
+        assert_eq!(Signature::at(&bytes, &ffi::Signature { n, ..good() }), None);
+    }
+}

@@ -9,21 +9,18 @@ use crate::faults::faulty_draft;
 use crate::model::image::{self as model, Form};
 use crate::tally::{cases, Tally, ACCEPTED};
 use crate::wrapper::{alone, inputs, refusal};
-use std::cell::Cell;
 use thimmorel::simulated::{SimulatedError, SimulatedFlash};
 use thimmorel::{Flash, InstallError, Installer, Progress};
 
-const SLOT: usize = 8_192;
+pub const SLOT: usize = 8_192;
 const PAGES: u32 = 2;
 
-type Outcome<E> = Result<(), InstallError<E>>;
-
 /// A whole install, from begin on. It ends at the first error.
-fn install<F: Flash>(
+pub fn install<F: Flash>(
     installer: &mut Installer<F>,
     file: &[u8],
     inputs: thimmorel::Inputs,
-) -> Outcome<F::Error> {
+) -> Result<(), InstallError<F::Error>> {
     installer.erase_all()?;
     for piece in file.chunks(100) {
         assert_eq!(installer.fill_all(piece)?, piece.len());
@@ -73,7 +70,7 @@ fn offset(operation: u32, last: u32) -> usize {
 }
 
 /// Asserts that every call refuses with 19.
-fn assert_dropped<F: Flash>(installer: &mut Installer<F>, inputs: thimmorel::Inputs)
+pub fn assert_dropped<F: Flash>(installer: &mut Installer<F>, inputs: thimmorel::Inputs)
 where
     F::Error: PartialEq + std::fmt::Debug,
 {
@@ -88,16 +85,16 @@ where
 }
 
 /// A file of 1,540 bytes, which one install puts over different slots.
-struct Case {
-    file: Vec<u8>,
-    inputs: model::Inputs,
+pub struct Case {
+    pub file: Vec<u8>,
+    pub inputs: model::Inputs,
     /// How many operations the install has.
-    last: u32,
+    pub last: u32,
 }
 
 impl Case {
     /// No word of the file is all 255, so that a store that does not happen can be seen.
-    fn new(random: &mut Random) -> Case {
+    pub fn new(random: &mut Random) -> Case {
         loop {
             let draft = Draft::smallest(Form::File, random);
             let file = draft.file();
@@ -272,50 +269,4 @@ fn calls_out_of_turn() {
     assert_eq!(installer.progress(), progress);
     let shown = format!("{installer:?}");
     assert!(shown.len() < 200, "{shown}");
-}
-
-/// A flash whose first word reads right once, and not a second time.
-struct Fading {
-    bytes: Vec<u8>,
-    faded: Vec<u8>,
-    reads: Cell<usize>,
-}
-
-impl Flash for Fading {
-    type Error = SimulatedError;
-
-    fn bytes(&self) -> Result<&[u8], SimulatedError> {
-        self.reads.set(self.reads.get() + 1);
-        match self.bytes[..4] != [255; 4] && self.reads.get() > 1 {
-            true => Ok(&self.faded),
-            false => Ok(&self.bytes),
-        }
-    }
-
-    fn erase_page(&mut self, offset: usize) -> Result<(), SimulatedError> {
-        self.bytes[offset..offset + 4_096].fill(255);
-        Ok(())
-    }
-
-    fn store_word(&mut self, offset: usize, word: [u8; 4]) -> Result<(), SimulatedError> {
-        self.faded.clone_from(&self.bytes);
-        self.bytes[offset..offset + 4].copy_from_slice(&word);
-        self.reads.set(0);
-        Ok(())
-    }
-}
-
-/// Done is the answer of confirm, over the slot as it is then read.
-#[test]
-fn a_first_word_that_fades() {
-    let case = Case::new(&mut Random::new(905));
-    let flash = Fading {
-        bytes: vec![255; SLOT],
-        faded: Vec::new(),
-        reads: Cell::new(0),
-    };
-    let mut installer = Installer::begin(flash, case.file.len()).expect("good lengths");
-    let answer = install(&mut installer, &case.file, inputs(&case.inputs));
-    assert_eq!(answer, Err(InstallError::Refused(alone(27))));
-    assert_dropped(&mut installer, inputs(&case.inputs));
 }

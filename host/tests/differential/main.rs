@@ -16,6 +16,7 @@ mod moment;
 mod tally;
 mod written;
 
+mod boards;
 mod calls;
 mod checks;
 mod damage;

@@ -132,6 +132,23 @@ fn words_that_are_not_erased() {
     tally.assert_seen(500, &NOT_LANDED);
 }
 
+/// Accepted, and the first word stands: a record whose file is not whole, though its count agrees,
+/// is one that no session reaches.
+#[test]
+fn accepted_too_early() {
+    let mut random = Random::new(506);
+    let mut tally = Tally::new("calls on records that are accepted too early");
+    for _ in 0..cases(20_000) {
+        let mut moment = Moment::live(&mut random);
+        moment.words[0] = 2;
+        moment.words[5] = moment.words[3] + moment.words[4] / 4;
+        moment.slot[..4].copy_from_slice(&moment.words[6].to_le_bytes());
+        count_each_call(&moment, &mut random, &mut tally);
+    }
+    let confirmed = [("confirm", 0, 0)];
+    tally.assert_exactly(5_000, &[&each_call(19)[..], &confirmed].concat());
+}
+
 /// The reserved words are not read.
 #[test]
 fn reserved_words() {

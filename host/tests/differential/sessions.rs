@@ -157,6 +157,30 @@ fn sessions_with_faulty_files() {
     );
 }
 
+/// The words are those of the record, in its order.
+#[test]
+fn stored_words() {
+    let mut slot = [0; 8_192];
+    let mut session = Session::begin(&slot, 1_540).expect("good lengths");
+    assert_eq!(session.erase(&mut slot), Ok(()));
+    assert_eq!(session.erase(&mut slot), Ok(()));
+    for piece in [b"abcd", b"efgh"] {
+        assert_eq!(session.fill(piece, &mut slot), Ok(4));
+    }
+    assert_eq!(session.fill(b"i", &mut slot), Ok(1));
+    let words = session.words();
+    assert_eq!(words[..6], [1, 8_192, 1_540, 2, 9, 3]);
+    assert_eq!(words[6], u32::from_le_bytes(*b"abcd"));
+    assert_eq!(words[7] & 0xff, b'i'.into());
+    assert_eq!(words[8..], [0; 8]);
+
+    let mut random = Random::new(807);
+    for _ in 0..1_000 {
+        let words = std::array::from_fn(|_| random.word());
+        assert_eq!(Session::from_words(words).words(), words);
+    }
+}
+
 #[test]
 fn how_a_session_is_shown() {
     let session = Session::begin(&[0; 8_192], 1_540).expect("good lengths");

@@ -136,7 +136,7 @@ impl Record {
             && (self.bytes_taken == 0 || self.all_erased())
             && self.bytes_taken <= self.file_length
             && self.operations == self.pages_erased + self.words_stored()
-            && (self.phase != ACCEPTED || self.full())
+            && (self.full() || self.phase != ACCEPTED)
     }
 
     /// 19, unless the session is in this phase, the slot is as long as at begin, the record is
@@ -261,7 +261,7 @@ pub fn close(record: &mut Record, slot: &mut [u8], inputs: &Inputs) -> Result<()
 
 /// Confirm: Done if word 0 stands in the slot.
 pub fn confirm(record: &mut Record, slot: &[u8]) -> Result<(), u32> {
-    record.expect(ACCEPTED, slot, Record::full)?;
+    record.expect(ACCEPTED, slot, |_| true)?;
     refuse_unless(slot[..WORD] == record.first, NOT_LANDED)?;
     record.phase = OVER;
     Ok(())
