@@ -8,12 +8,10 @@ const FOLDER: &str = concat!(env!("CARGO_MANIFEST_DIR"), "/../target/staticlib")
 fn main() {
     let archive = Path::new(FOLDER).join("libthimmorel.a");
     println!("cargo::rerun-if-changed={}", archive.display());
-    if !archive.exists() {
-        println!(
-            "cargo::error=target/staticlib/libthimmorel.a is missing: run `rt staticlib thimmorel`"
-        );
-        return;
-    }
+    assert!(
+        archive.exists(),
+        "target/staticlib/libthimmorel.a is missing: run `rt staticlib thimmorel`"
+    );
     println!("cargo::rustc-link-search=native={FOLDER}");
     println!("cargo::rustc-link-lib=static=thimmorel");
 }

@@ -2,6 +2,7 @@
 
 use crate::ffi;
 use crate::image::{Image, Version};
+use crate::places;
 use crate::refusal::Refusal;
 
 /// What a check takes besides the bytes.
@@ -14,44 +15,57 @@ pub struct Inputs {
     /// How many keys there are for the vendor header.
     pub n: u32,
     /// The chip's verdict on the vendor header's signature.
-    pub vendor: bool,
+    pub vendor_verdict: bool,
     /// The chip's verdict on the firmware header's signature.
-    pub firmware: bool,
+    pub firmware_verdict: bool,
+}
+
+impl Inputs {
+    /// As the archive takes them: 1 is yes.
+    pub(crate) fn words(self) -> ffi::Inputs {
+        ffi::Inputs {
+            time: self.time,
+            m: self.m,
+            n: self.n,
+            vendor_verdict: self.vendor_verdict.into(),
+            firmware_verdict: self.firmware_verdict.into(),
+        }
+    }
 }
 
 type Check = unsafe extern "C" fn(
     *const u8,
-    usize,
-    u32,
-    u32,
-    u32,
-    bool,
-    bool,
-    *mut [u32; 2],
-    *mut [u32; 4],
+    u64,
+    *const ffi::Inputs,
+    *mut ffi::Answer,
+    *mut ffi::Image,
 ) -> u32;
 
 /// Checks an image that is a file: nothing may follow the code.
+///
+/// # Errors
 ///
 /// The first step that fails is the refusal. `include/thimmorel.h` lists the steps in their order.
 ///
 /// ```
 /// use thimmorel::{check_file, write_firmware, write_vendor};
-/// use thimmorel::{FirmwareHeader, Inputs, VendorHeader};
+/// use thimmorel::{FirmwareHeader, Inputs, Part, Reason, VendorHeader};
 ///
-/// let vendor = VendorHeader { m: 1, n: 1, sigmask: 1, keys: &[7; 32], ..VendorHeader::default() };
-/// let firmware = FirmwareHeader { v: 512, sigmask: 1, ..FirmwareHeader::default() };
+/// let keys = [[7; 32]];
+/// let vendor = VendorHeader { m: 1, keys: &keys, sigmask: 1, ..VendorHeader::default() };
+/// let firmware = FirmwareHeader { vendor_length: 512, sigmask: 1, ..FirmwareHeader::default() };
 /// let mut file = [0; 1540];
 /// write_vendor(&vendor, &mut file)?;
 /// write_firmware(&firmware, b"code", &mut file[512..])?;
 /// file[1536..].copy_from_slice(b"code");
 ///
-/// let inputs = Inputs { time: 0, m: 1, n: 1, vendor: true, firmware: true };
+/// let inputs = Inputs { time: 0, m: 1, n: 1, vendor_verdict: true, firmware_verdict: true };
 /// assert_eq!(check_file(&file, inputs)?.code, b"code");
 ///
 /// file[1536] = b'm';
 /// let refusal = check_file(&file, inputs).unwrap_err();
-/// assert_eq!((refusal.number, refusal.part, refusal.chunk), (14, 3, 1));
+/// assert_eq!(refusal.reason, Reason::ChunkHash);
+/// assert_eq!((refusal.part, refusal.chunk), (Some(Part::Code), Some(1)));
 /// # Ok::<(), thimmorel::Refusal>(())
 /// ```
 pub fn check_file(bytes: &[u8], inputs: Inputs) -> Result<Image<'_>, Refusal> {
@@ -61,54 +75,53 @@ pub fn check_file(bytes: &[u8], inputs: Inputs) -> Result<Image<'_>, Refusal> {
 /// Checks an image that is in a slot: the bytes after the code must be erased, which is 255.
 /// This is the check to make before the firmware is started.
 ///
-/// ```
-/// use thimmorel::{check_slot, Inputs};
+/// # Errors
 ///
-/// let inputs = Inputs { time: 0, m: 2, n: 3, vendor: true, firmware: true };
+/// As [`check_file`], except for the bytes after the code.
+///
+/// ```
+/// use thimmorel::{check_slot, Inputs, Reason};
+///
+/// let inputs = Inputs { time: 0, m: 2, n: 3, vendor_verdict: true, firmware_verdict: true };
 /// let erased = [255; 4096];
-/// assert_eq!(check_slot(&erased, inputs).unwrap_err().number, 1);
+/// assert_eq!(check_slot(&erased, inputs).unwrap_err().reason, Reason::VendorMagic);
 /// ```
 pub fn check_slot(bytes: &[u8], inputs: Inputs) -> Result<Image<'_>, Refusal> {
     check(ffi::thimmorel_check_slot, bytes, inputs)
 }
 
 fn check(call: Check, bytes: &[u8], inputs: Inputs) -> Result<Image<'_>, Refusal> {
-    let mut place = [0; 2];
-    let mut told = [0; 4];
-    // SAFETY: the pointer and the length are those of one slice, and the arrays are locals, so
+    let mut answer = ffi::Answer::default();
+    let mut image = ffi::Image::default();
+    // SAFETY: the pointer and the length are those of one slice, and the structs are locals, so
     // they do not overlap.
     let number = unsafe {
         call(
             bytes.as_ptr(),
-            bytes.len(),
-            inputs.time,
-            inputs.m,
-            inputs.n,
-            inputs.vendor,
-            inputs.firmware,
-            &mut place,
-            &mut told,
+            bytes.len() as u64,
+            &inputs.words(),
+            &mut answer,
+            &mut image,
         )
     };
-    Refusal::unless_zero(number, place)?;
-    let [v, _, version, fix] = told;
-    let [string, picture, code] = parts(bytes);
+    Refusal::unless_zero_at(number, answer)?;
+    let parts = parts(bytes);
+    let part = |place| places::at(bytes, place).unwrap_or_default();
     Ok(Image {
-        v: v as usize,
-        version: Version::from_word(version),
-        fix: Version::from_word(fix),
-        string,
-        picture,
-        code,
+        vendor_length: image.vendor_length as usize,
+        version: Version::from_word(image.version),
+        fix_version: Version::from_word(image.fix_version),
+        string: part(parts.string),
+        picture: part(parts.picture),
+        code: part(parts.code),
     })
 }
 
-/// The string, the picture area and the code of accepted bytes.
-fn parts(bytes: &[u8]) -> [&[u8]; 3] {
-    let mut parts = [0; 6];
-    // SAFETY: the pointer and the length are those of one slice, and the array is a local, so they
+/// Where the parts of accepted bytes are.
+fn parts(bytes: &[u8]) -> ffi::Parts {
+    let mut parts = ffi::Parts::default();
+    // SAFETY: the pointer and the length are those of one slice, and the struct is a local, so they
     // do not overlap.
-    unsafe { ffi::thimmorel_parts(bytes.as_ptr(), bytes.len(), 0, &mut parts) };
-    let part = |i: usize| &bytes[parts[i]..][..parts[i + 1]];
-    [part(0), part(2), part(4)]
+    unsafe { ffi::thimmorel_find_parts(bytes.as_ptr(), bytes.len() as u64, 0, &mut parts) };
+    parts
 }

@@ -1,13 +1,18 @@
-//! Why a call refused: the number, and for the checks the part of the image and the chunk.
-//! The sentences are those of `include/thimmorel.h`, and tests/header.rs compares them.
+//! Why a call refused: the reason, and for the checks the part of the image and the chunk.
+//! Numbers and sentences are those of `include/thimmorel.h`, and tests/header.rs compares them.
 
+use crate::ffi;
 use core::error::Error;
 use core::fmt;
 
 /// A refusal. It reads as a sentence:
 ///
 /// ```
-/// let refusal = thimmorel::vendor_digest(b"TRZ").unwrap_err();
+/// use thimmorel::{vendor_digest, Part, Reason};
+///
+/// let refusal = vendor_digest(b"TRZ").unwrap_err();
+/// assert_eq!(refusal.reason, Reason::VendorMagic);
+/// assert_eq!(refusal.part, Some(Part::VendorHeader));
 /// assert_eq!(
 ///     refusal.to_string(),
 ///     "refused with 1 in the vendor header: the bytes do not start with TRZV"
@@ -15,84 +20,162 @@ use core::fmt;
 /// ```
 #[derive(Clone, Copy, Debug, PartialEq, Eq, Hash)]
 pub struct Refusal {
-    /// Which condition it was, from 1 to 23.
-    pub number: u32,
-    /// The part of the image: 1 vendor header, 2 firmware header, 3 code, 0 otherwise.
-    pub part: u32,
-    /// The chunk, from 1 to 16, with the numbers 14 and 15. It is 0 otherwise.
-    pub chunk: u32,
+    /// Which condition it was.
+    pub reason: Reason,
+    /// The part of the image that a check's refusal is about.
+    pub part: Option<Part>,
+    /// The chunk, from 1 to 16, with [`Reason::ChunkHash`] and [`Reason::UnusedHash`].
+    pub chunk: Option<u32>,
 }
 
 impl Refusal {
-    /// `Ok` for number 0. `place` is the part and the chunk.
-    pub(crate) fn unless_zero(number: u32, place: [u32; 2]) -> Result<(), Refusal> {
-        let [part, chunk] = place;
-        match number {
-            0 => Ok(()),
-            _ => Err(Refusal {
-                number,
-                part,
-                chunk,
-            }),
+    /// A refusal that is no refusal of a check.
+    pub(crate) const fn of(reason: Reason) -> Refusal {
+        Refusal {
+            reason,
+            part: None,
+            chunk: None,
         }
     }
 
-    fn part_name(&self) -> Option<&'static str> {
-        match self.part {
-            1 => Some("vendor header"),
-            2 => Some("firmware header"),
-            3 => Some("code"),
-            _ => None,
+    /// `Ok` for the number 0.
+    pub(crate) fn unless_zero(number: u32) -> Result<(), Refusal> {
+        match Reason::from_number(number) {
+            None => Ok(()),
+            Some(reason) => Err(Refusal::of(reason)),
         }
     }
 
-    fn sentence(&self) -> &'static str {
-        match self.number {
-            1 => "the bytes do not start with TRZV",
-            2 => "the bytes end before this part of the image does",
-            3 => "the length of the vendor header is not a multiple of 512 from 512 to 65,536",
-            4 => "the vendor header's key numbers are not 1 <= vsig_m <= vsig_n <= 8",
-            5 => "the vendor string leaves no room for the signature",
-            6 => "a byte of the header that must be zero is not",
-            7 => "the time is later than the header's expiry",
-            8 => "the sigmask names a key index of n or above, or fewer than m keys",
-            9 => "the verdict on the header's signature is no",
-            10 => "the firmware header does not start with TRZF",
-            11 => "the firmware header does not give its length as 1,024",
-            12 => "the code length is 0, not a multiple of 4, or more than an image holds",
-            13 => "bytes follow the code: any byte in a file, a byte other than 255 in a slot",
-            14 => "the code in a chunk does not have the digest that the firmware header gives",
-            15 => "the hash of a chunk without code is not all zero",
-            16 => "the caller's key policy is not 1 <= m <= n <= 8",
-            17 => "chunk 1 has no room for code",
-            18 => {
-                "the file length is not a multiple of 4, is under 1,540, \
-                 or is above the slot's length"
-            }
-            19 => {
-                "the session is over or not ready for this call, \
-                 the slot's length is not that at begin, or the record is inconsistent"
-            }
-            20 => "the keys are not 32 * n bytes, or the string is over 255 bytes",
-            21 => "the output is shorter than the header",
-            22 => "the slot's length is not a multiple of 4,096 from 4,096 to 2,097,152",
-            23 => "the slot's word that would be overwritten is not erased",
-            _ => "no call gives this number",
-        }
+    /// The same for a call that also tells where it found the fault.
+    pub(crate) fn unless_zero_at(number: u32, answer: ffi::Answer) -> Result<(), Refusal> {
+        Refusal::unless_zero(number).map_err(|refusal| Refusal {
+            part: Part::from_number(answer.part),
+            chunk: (answer.chunk != 0).then_some(answer.chunk),
+            ..refusal
+        })
     }
 }
 
 impl fmt::Display for Refusal {
     fn fmt(&self, f: &mut fmt::Formatter<'_>) -> fmt::Result {
-        write!(f, "refused with {}", self.number)?;
-        if let Some(part) = self.part_name() {
+        write!(f, "refused with {}", self.reason.number())?;
+        if let Some(part) = self.part {
             write!(f, " in the {part}")?;
         }
-        if self.chunk != 0 {
-            write!(f, ", chunk {}", self.chunk)?;
+        if let Some(chunk) = self.chunk {
+            write!(f, ", chunk {chunk}")?;
         }
-        write!(f, ": {}", self.sentence())
+        write!(f, ": {}", self.reason)
     }
 }
 
 impl Error for Refusal {}
+
+/// A part of an image.
+#[derive(Clone, Copy, Debug, PartialEq, Eq, Hash)]
+#[non_exhaustive]
+pub enum Part {
+    /// The vendor header.
+    VendorHeader,
+    /// The firmware header.
+    FirmwareHeader,
+    /// The code.
+    Code,
+}
+
+impl Part {
+    fn from_number(number: u32) -> Option<Part> {
+        match number {
+            1 => Some(Part::VendorHeader),
+            2 => Some(Part::FirmwareHeader),
+            3 => Some(Part::Code),
+            _ => None,
+        }
+    }
+}
+
+impl fmt::Display for Part {
+    fn fmt(&self, f: &mut fmt::Formatter<'_>) -> fmt::Result {
+        f.write_str(match self {
+            Part::VendorHeader => "vendor header",
+            Part::FirmwareHeader => "firmware header",
+            Part::Code => "code",
+        })
+    }
+}
+
+/// Makes the enum, and what tells the number and the sentence of each reason.
+macro_rules! reasons {
+    ($($number:literal $name:ident $sentence:literal)*) => {
+        /// The condition of a refusal. Each has one number and one meaning in all calls.
+        #[derive(Clone, Copy, Debug, PartialEq, Eq, Hash)]
+        #[non_exhaustive]
+        pub enum Reason {
+            $(#[doc = concat!("Number ", $number, ": ", $sentence, ".")] $name,)*
+            /// A number that this version of the wrapper does not know.
+            Other(u32),
+        }
+
+        impl Reason {
+            /// The reason with this number, and none for 0, which is success.
+            pub const fn from_number(number: u32) -> Option<Reason> {
+                match number {
+                    0 => None,
+                    $($number => Some(Reason::$name),)*
+                    _ => Some(Reason::Other(number)),
+                }
+            }
+
+            /// The number of `enum thimmorel_error`.
+            pub const fn number(self) -> u32 {
+                match self {
+                    $(Reason::$name => $number,)*
+                    Reason::Other(number) => number,
+                }
+            }
+
+            const fn sentence(self) -> &'static str {
+                match self {
+                    $(Reason::$name => $sentence,)*
+                    Reason::Other(_) => "no call of this version gives this number",
+                }
+            }
+        }
+    };
+}
+
+reasons! {
+    1 VendorMagic "the bytes do not start with TRZV"
+    2 TooShort "the bytes end before this part of the image does"
+    3 VendorLength "the length of the vendor header is not a multiple of 512 from 512 to 65,536"
+    4 VendorKeys "the vendor header's key numbers are not 1 <= vsig_m <= vsig_n <= 8"
+    5 StringLength "the vendor string leaves no room for the signature"
+    6 NotZero "a byte of the header that must be zero is not"
+    7 Expired "the time is later than the header's expiry"
+    8 Sigmask "the sigmask names a key index of n or above, or fewer than m keys"
+    9 Verdict "the verdict on the header's signature is no"
+    10 FirmwareMagic "the firmware header does not start with TRZF"
+    11 FirmwareLength "the firmware header does not give its length as 1,024"
+    12 CodeLength "the code length is 0, not a multiple of 4, or more than an image holds"
+    13 BytesFollow "bytes follow the code: any byte in a file, a byte other than 255 in a slot"
+    14 ChunkHash "the code in a chunk does not have the digest that the firmware header gives"
+    15 UnusedHash "the hash of a chunk without code is not all zero"
+    16 Policy "the caller's key policy is not 1 <= m <= n <= 8"
+    17 NoRoom "chunk 1 has no room for code"
+    18 FileLength "the file length is not a multiple of 4, is under 1,540, or is above the slot's \
+        length"
+    19 Turn "the session is over or not ready for this call, the slot's length is not that at \
+        begin, or the record is inconsistent"
+    20 FieldLength "the keys are not 32 * n bytes, or the string is over 255 bytes"
+    21 OutputLength "the output is shorter than the header"
+    22 SlotLength "the slot's length is not a multiple of 4,096 from 4,096 to 2,097,152"
+    23 NotErased "the slot's word that would be overwritten is not erased"
+    27 NotLanded "the file's first word does not stand in the slot"
+    28 FieldRange "a number does not fit its field of the header"
+}
+
+impl fmt::Display for Reason {
+    fn fmt(&self, f: &mut fmt::Formatter<'_>) -> fmt::Result {
+        f.write_str(self.sentence())
+    }
+}

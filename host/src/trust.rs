@@ -8,13 +8,13 @@ pub struct Trust {
     /// How many seconds to wait, from 0 to 15.
     pub seconds: u32,
     /// Whether the background is red.
-    pub red: bool,
+    pub red_background: bool,
     /// Whether a click is needed.
-    pub click: bool,
+    pub click_needed: bool,
     /// Whether the string is shown.
-    pub string: bool,
+    pub string_shown: bool,
     /// Whether the pairing secret is allowed.
-    pub secret: bool,
+    pub secret_allowed: bool,
 }
 
 impl Trust {
@@ -24,26 +24,26 @@ impl Trust {
     /// ```
     /// use thimmorel::{write_vendor, Trust, VendorHeader};
     ///
+    /// let keys = [[7; 32]];
     /// let mut header = [0; 512];
-    /// let fields = VendorHeader { m: 1, n: 1, keys: &[7; 32], ..VendorHeader::default() };
+    /// let fields = VendorHeader { m: 1, keys: &keys, ..VendorHeader::default() };
     /// write_vendor(&VendorHeader { vtrust: 0xfff6, ..fields }, &mut header)?;
     /// let trust = Trust::read(&header);
     /// assert_eq!(trust.seconds, 9);
-    /// assert!(!trust.red);
+    /// assert!(!trust.red_background);
     /// # Ok::<(), thimmorel::Refusal>(())
     /// ```
     pub fn read(bytes: &[u8]) -> Trust {
-        let mut words = [0; 5];
-        // SAFETY: the pointer and the length are those of one slice, and the array is a local, so
+        let mut trust = ffi::Trust::default();
+        // SAFETY: the pointer and the length are those of one slice, and the struct is a local, so
         // they do not overlap.
-        unsafe { ffi::thimmorel_trust(bytes.as_ptr(), bytes.len(), &mut words) };
-        let [seconds, red, click, string, secret] = words;
+        unsafe { ffi::thimmorel_read_trust(bytes.as_ptr(), bytes.len() as u64, &mut trust) };
         Trust {
-            seconds,
-            red: red != 0,
-            click: click != 0,
-            string: string != 0,
-            secret: secret != 0,
+            seconds: trust.seconds,
+            red_background: trust.red_background == 1,
+            click_needed: trust.click_needed == 1,
+            string_shown: trust.string_shown == 1,
+            secret_allowed: trust.secret_allowed == 1,
         }
     }
 }

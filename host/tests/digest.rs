@@ -116,7 +116,7 @@ fn assert_writes_at(at: usize, mut message: Vec<u8>) {
     let copy = message.clone();
     unsafe {
         let digest = buffer.as_mut_ptr().add(at).cast();
-        ffi::thimmorel_digest(message.as_mut_ptr(), message.len(), digest);
+        ffi::thimmorel_digest(message.as_mut_ptr(), message.len() as u64, digest);
     }
     let (before, digest, after) = (&buffer[..at], &buffer[at..at + 32], &buffer[at + 32..]);
     assert_eq!(digest, blake2s(&copy));
@@ -126,5 +126,5 @@ fn assert_writes_at(at: usize, mut message: Vec<u8>) {
 
 #[test]
 fn from_c_and_cpp() {
-    c::run_as_c_and_cpp("digest");
+    c::run_as_c_and_cpp("host/tests/c/digest.c");
 }

@@ -1,21 +1,21 @@
-//! The sentences of `Refusal` against those of `enum thimmorel_number` in include/thimmorel.h: the
-//! same numbers, and the same words.
+//! The wrapper against include/thimmorel.h: the numbers and the sentences of `Reason` against
+//! `enum thimmorel_error`, the sizes, and the version. declarations.rs compares structs and calls.
 
 use std::collections::BTreeMap;
-use thimmorel::Refusal;
+use thimmorel::{ffi, Reason};
 
 const HEADER: &str = include_str!("../../include/thimmorel.h");
 
-/// Of each number.
-type Sentences = BTreeMap<u32, String>;
+/// Of each number: the name, and the sentence.
+type Reasons = BTreeMap<u32, (String, String)>;
 
 /// What stands between two texts, and what follows.
 fn between<'a>(text: &'a str, start: &str, end: &str) -> Option<(&'a str, &'a str)> {
     text.split_once(start)?.1.split_once(end)
 }
 
-/// A comment as `Refusal` writes it: on one line, with no capital, full stop or backquotes.
-fn as_refusal_writes(comment: &str) -> String {
+/// A comment as `Reason` writes it: on one line, with no capital, full stop or backquotes.
+fn as_reason_writes(comment: &str) -> String {
     let words: Vec<&str> = comment.split_whitespace().collect();
     let line = words.join(" ").replace('`', "");
     let sentence = line.strip_suffix('.').expect("a comment has a full stop");
@@ -23,46 +23,90 @@ fn as_refusal_writes(comment: &str) -> String {
     first.to_lowercase() + rest
 }
 
+/// `THIMMOREL_ERROR_TOO_SHORT` as `TooShort`.
+fn as_variant(name: &str) -> String {
+    let name = name.trim().strip_prefix("THIMMOREL_ERROR_");
+    let words = name.expect("the prefix of an error").split('_');
+    let capital = |word: &str| word[..1].to_string() + &word[1..].to_lowercase();
+    words.map(capital).collect()
+}
+
 /// Each enumerator is `/** COMMENT */ NAME = NUMBER`, and a comma ends it, or the enum.
-fn of_header() -> Sentences {
-    let (mut rest, _) = between(HEADER, "enum thimmorel_number {", "};").expect("the enum");
-    let mut sentences = Sentences::new();
+fn of_header() -> Reasons {
+    let (enumerators, _) = between(HEADER, "enum thimmorel_error {", "};").expect("the enum");
+    let (success, mut rest) = enumerators.split_once(",\n").expect("enumerators");
+    assert!(success.ends_with("THIMMOREL_OK = 0"), "{success}");
+    let mut reasons = Reasons::new();
     while let Some((comment, after)) = between(rest, "/**", "*/") {
         let (enumerator, next) = after.split_once(",\n").unwrap_or((after, ""));
-        let (_name, number) = enumerator.split_once(" = ").expect("an enumerator");
+        let (name, number) = enumerator.split_once(" = ").expect("an enumerator");
         let number = number.trim().parse().expect("a number");
-        let before = sentences.insert(number, as_refusal_writes(comment));
+        let reason = (as_variant(name), as_reason_writes(comment));
+        let before = reasons.insert(number, reason);
         assert_eq!(before, None, "{number} stands twice in the header");
         rest = next;
     }
-    sentences
+    reasons
 }
 
-/// The sentence that `Display` gives after the number.
-fn sentence(number: u32) -> String {
-    let refusal = Refusal {
-        number,
-        part: 0,
-        chunk: 0,
-    };
-    let text = refusal.to_string();
-    let (_number, sentence) = text.split_once(": ").expect("a sentence");
-    sentence.to_string()
-}
-
-fn of_refusal() -> Sentences {
-    let none = sentence(u32::MAX);
-    let sentences = (0..=255).map(|number| (number, sentence(number)));
-    sentences
-        .filter(|(_, sentence)| *sentence != none)
-        .collect()
+fn of_wrapper() -> Reasons {
+    let reasons = (1..=255).filter_map(Reason::from_number);
+    let known = reasons.filter(|reason| !matches!(reason, Reason::Other(_)));
+    let told = known.map(|reason| {
+        let name = format!("{reason:?}");
+        (reason.number(), (name, reason.to_string()))
+    });
+    told.collect()
 }
 
 #[test]
-fn the_sentences_of_both_are_the_same() {
-    let mut of_header = of_header();
-    let success = of_header.remove(&0).expect("the header tells success");
-    assert!(success.starts_with("success"), "{success}");
-    assert!(of_header.keys().copied().eq(1..=23), "{of_header:?}");
-    assert_eq!(of_refusal(), of_header);
+fn the_reasons_of_both_are_the_same() {
+    let of_header = of_header();
+    let numbers = of_header.keys().copied();
+    assert!(numbers.eq((1..=23).chain([27, 28])), "{of_header:?}");
+    assert_eq!(of_wrapper(), of_header);
+}
+
+#[test]
+fn numbers_that_are_no_reason_or_another() {
+    assert_eq!(Reason::from_number(0), None);
+    for number in [24, 25, 26, 29, 255, 256, u32::MAX] {
+        let reason = Reason::from_number(number);
+        assert_eq!(reason, Some(Reason::Other(number)));
+        assert_eq!(reason.map(Reason::number), Some(number));
+    }
+}
+
+/// What a macro of the header stands for.
+fn defined(name: &str) -> &str {
+    let (value, _) = between(HEADER, &format!("#define {name} "), "\n").expect(name);
+    value
+}
+
+#[test]
+fn the_sizes_of_both_are_the_same() {
+    for (name, size) in [
+        ("THIMMOREL_RECORD_WORDS", size_of::<ffi::Record>() / 4),
+        (
+            "THIMMOREL_FIRMWARE_HEADER_SIZE",
+            thimmorel::FIRMWARE_HEADER_SIZE,
+        ),
+        ("THIMMOREL_VENDOR_HEADER_MIN", thimmorel::VENDOR_HEADER_MIN),
+        ("THIMMOREL_VENDOR_HEADER_MAX", thimmorel::VENDOR_HEADER_MAX),
+        ("THIMMOREL_PAGE_SIZE", thimmorel::PAGE_SIZE),
+        ("THIMMOREL_WORD_SIZE", thimmorel::WORD_SIZE),
+        ("THIMMOREL_SLOT_MAX", thimmorel::SLOT_MAX),
+        ("THIMMOREL_FILE_MIN", thimmorel::FILE_MIN),
+    ] {
+        assert_eq!(defined(name), format!("{size}u"), "{name}");
+    }
+}
+
+#[test]
+fn the_versions_of_both_are_the_same() {
+    let version = env!("CARGO_PKG_VERSION");
+    assert_eq!(defined("THIMMOREL_VERSION"), format!("\"{version}\""));
+    let parts = ["MAJOR", "MINOR", "PATCH"].map(|part| format!("THIMMOREL_VERSION_{part}"));
+    let parts = parts.each_ref().map(|name| defined(name));
+    assert_eq!(parts.join("."), version);
 }

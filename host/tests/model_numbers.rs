@@ -5,8 +5,8 @@
 mod model;
 
 use model::blake2s::blake2s;
-use model::image::{check, parts, trust, vendor_digest, Form, Inputs, Refusal};
-use model::installer;
+use model::image::{check, parts, trust, vendor_digest, Form, Inputs, Refusal, YES};
+use model::installer::{self, Operation};
 use model::program::inspect;
 use model::writer::{firmware_header, vendor_header, FirmwareFields, VendorFields};
 
@@ -14,8 +14,8 @@ const INPUTS: Inputs = Inputs {
     time: 0,
     m: 2,
     n: 3,
-    vendor: true,
-    firmware: true,
+    vendor: YES,
+    firmware: YES,
 };
 
 fn refusal(number: u32, part: u32) -> Refusal {
@@ -28,7 +28,7 @@ fn refusal(number: u32, part: u32) -> Refusal {
 }
 
 /// A vendor header for policy 2 of 3, with keys for 2 of `n`, and no picture.
-fn vendor(n: u8, string: usize) -> VendorFields {
+fn vendor(n: u32, string: usize) -> VendorFields {
     VendorFields {
         expiry: 0,
         major: 1,
@@ -37,7 +37,7 @@ fn vendor(n: u8, string: usize) -> VendorFields {
         n,
         vtrust: 0xffff,
         sigmask: 0x03,
-        keys: vec![7; 32 * usize::from(n)],
+        keys: vec![7; 32 * n as usize],
         string: vec![b'a'; string],
         picture: Vec::new(),
         sig: [1; 64],
@@ -180,6 +180,38 @@ fn p12_operations() {
     assert_eq!(record.operations, 401);
     assert_eq!(slot[..1_540], file);
     assert!(slot[1_540..].iter().all(|byte| *byte == 255));
+}
+
+/// The same by calls that hand their operation back (specification, 10.5).
+#[test]
+fn p12_operations_of_a_driver() {
+    let file = image();
+    let mut slot = vec![0; 65_536];
+    let (_, mut record) = installer::begin(slot.len(), file.len());
+    let mut made = 0;
+    while let Ok(operation) = installer::plan_erase(&mut record, &slot) {
+        operation.make(&mut slot);
+        made += 1;
+    }
+    for piece in file.chunks(4) {
+        let answer = installer::plan_fill(&mut record, piece, &slot);
+        let (taken, operation) = answer.expect("it is open");
+        assert_eq!(taken, 4);
+        operation.make(&mut slot);
+        made += u32::from(operation != Operation::Nothing);
+    }
+    assert_eq!(made, 400);
+    assert_eq!(installer::confirm(&mut record, &slot), Err(19));
+    let operation = installer::plan_close(&mut record, &slot, &INPUTS).expect("it is good");
+    let first = file[..4].try_into().expect("four bytes");
+    assert_eq!(operation, Operation::StoreWord(0, first));
+
+    assert_eq!(installer::confirm(&mut record, &slot), Err(27));
+    operation.make(&mut slot);
+    assert_eq!(installer::confirm(&mut record, &slot), Ok(()));
+    assert_eq!(installer::confirm(&mut record, &slot), Err(19));
+    assert_eq!(record.operations, 401);
+    assert_eq!(slot[..1_540], file);
 }
 
 /// The code need not be there: S16 comes before S21.

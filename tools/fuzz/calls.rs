@@ -1,8 +1,9 @@
-//! Target `calls`: a file with a fault or none, then a list of calls after a begin, in turn or not.
+//! Target `calls`: a file with a fault or none, then a list of calls after a begin, in turn or not,
+//! and in either form: one that hands its operation back, and the operation made, are one step.
 //! Record and slot are carried on, also into the next begin, and compared after every call. On a
 //! slot that nobody else writes, "done means landed" (specification, 11) is watched too.
 
-use crate::both::{Both, AFTER};
+use crate::both::{Both, Way, AFTER, WAYS};
 use crate::check::compare_check;
 use crate::draft::{any_inputs, slot_length};
 use crate::faults::faulty_draft;
@@ -58,26 +59,29 @@ struct Install {
 impl Install {
     /// One item of the list: a call, a run of calls whose turn it is, or an act of somebody else.
     fn step(&mut self, list: &mut Input) {
-        match list.up_to(15) {
-            0 | 1 => while self.erase() {},
-            2 => _ = self.erase(),
-            3 | 4 => while self.fill_next(4) > 0 {},
-            5 => self.fill_some(list),
-            6 => _ = self.fill_next(list.up_to(6)),
-            7 => _ = self.fill(&list.word().to_le_bytes()),
-            8 => self.ask(),
-            9 | 10 => self.close(self.inputs),
-            11 => self.close(any_inputs(list)),
+        let item = list.up_to(31);
+        let way = WAYS[item / 16];
+        match item % 16 {
+            0 => while self.erase(way) {},
+            1 => _ = self.erase(way),
+            2 | 3 => while self.fill_next(way, 4) > 0 {},
+            4 => self.fill_some(way, list),
+            5 => _ = self.fill_next(way, list.up_to(6)),
+            6 => _ = self.fill(way, &list.word().to_le_bytes()),
+            7 => self.ask(),
+            8 | 9 => self.close(way, self.inputs),
+            10 => self.close(way, any_inputs(list)),
+            11 => self.confirm(),
             12 => self.meddle(list),
-            13 => self.lend_another_length(list),
+            13 => self.lend_another_length(way, list),
             14 => self.begin_again(self.both.slot().len(), self.file.len()),
             _ => self.begin_with_any_lengths(list),
         }
     }
 
-    fn erase(&mut self) -> bool {
+    fn erase(&mut self, way: Way) -> bool {
         self.calls += 1;
-        let answer = self.both.erase();
+        let answer = self.both.erase(way);
         if let Some(landed) = &mut self.landed {
             landed.erase(answer, self.both.slot());
         }
@@ -85,9 +89,9 @@ impl Install {
     }
 
     /// Gives a piece, and tells how many bytes were taken.
-    fn fill(&mut self, piece: &[u8]) -> usize {
+    fn fill(&mut self, way: Way, piece: &[u8]) -> usize {
         self.calls += 1;
-        let answer = self.both.fill(piece);
+        let answer = self.both.fill(way, piece);
         if let Some(landed) = &mut self.landed {
             landed.fill(piece, answer, self.both.slot());
         }
@@ -96,34 +100,42 @@ impl Install {
     }
 
     /// Gives the next bytes of the file, and after its end others.
-    fn fill_next(&mut self, length: usize) -> usize {
+    fn fill_next(&mut self, way: Way, length: usize) -> usize {
         let rest = self.file.get(self.given..).unwrap_or(&[]);
         let mut piece = rest[..length.min(rest.len())].to_vec();
         piece.resize(length, 0x77);
-        self.fill(&piece)
+        self.fill(way, &piece)
     }
 
     /// Gives some pieces of one length, as long as bytes are taken.
-    fn fill_some(&mut self, list: &mut Input) {
+    fn fill_some(&mut self, way: Way, list: &mut Input) {
         let (mut count, length) = (list.byte(), 1 + list.up_to(5));
-        while count > 0 && self.fill_next(length) > 0 {
+        while count > 0 && self.fill_next(way, length) > 0 {
             count -= 1;
         }
     }
 
     fn ask(&mut self) {
         self.calls += 1;
-        let _ = self.both.ask();
+        let answer = self.both.ask();
         if let Some(landed) = &mut self.landed {
-            landed.ask(self.both.slot());
+            landed.ask(&answer, self.both.slot());
         }
     }
 
-    fn close(&mut self, inputs: Inputs) {
+    fn close(&mut self, way: Way, inputs: Inputs) {
         self.calls += 1;
-        let answer = self.both.close(&inputs);
+        let answer = self.both.close(way, &inputs);
         if let Some(landed) = &mut self.landed {
-            landed.close(&inputs, answer, self.both.slot());
+            landed.close(way, &inputs, answer, self.both.slot());
+        }
+    }
+
+    fn confirm(&mut self) {
+        self.calls += 1;
+        let answer = self.both.confirm();
+        if let Some(landed) = &mut self.landed {
+            landed.confirm(answer, self.both.slot());
         }
     }
 
@@ -141,17 +153,18 @@ impl Install {
     }
 
     /// For one call, which changes nothing, so that the watcher need not know of it.
-    fn lend_another_length(&mut self, list: &mut Input) {
+    fn lend_another_length(&mut self, way: Way, list: &mut Input) {
         let length = self.both.slot().len();
         let less = list.pick(&[4, 4_096, length]);
         let another = list.pick(&[length.saturating_sub(less), length + AFTER]);
         let landed = self.landed.take();
         self.both.lend(another);
-        match list.up_to(3) {
-            0 => _ = self.erase(),
-            1 => _ = self.fill_next(4),
+        match list.up_to(4) {
+            0 => _ = self.erase(way),
+            1 => _ = self.fill_next(way, 4),
             2 => self.ask(),
-            _ => self.close(self.inputs),
+            3 => self.close(way, self.inputs),
+            _ => self.confirm(),
         }
         self.both.lend(length);
         self.landed = landed;

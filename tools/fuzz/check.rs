@@ -1,5 +1,6 @@
 //! Target `check`: an image with some faults, then a list of damages. The check of a file or of a
-//! slot, the parts, the two digest questions and the trust reading are compared.
+//! slot, the parts, the two digest questions, the places of the signatures and the trust reading are
+//! compared.
 
 use crate::archive::image as archive;
 use crate::draft::{any_inputs, Draft};
@@ -97,6 +98,10 @@ pub fn compare_all(form: Form, bytes: &[u8], length: usize, inputs: &Inputs) {
     compare_check(form, lent, inputs);
     assert_eq!(archive::vendor_digest(lent), model::vendor_digest(lent));
     assert_eq!(archive::firmware_digest(lent), model::firmware_digest(lent));
+    let found = archive::vendor_signature(lent);
+    assert_eq!(found, model::vendor_signature(lent));
+    let found = archive::firmware_signature(lent);
+    assert_eq!(found, model::firmware_signature(lent));
     assert_eq!(archive::trust(lent), model::trust_of(lent));
     assert!(memory == before, "a call wrote to the bytes it was lent");
 }

@@ -1,8 +1,9 @@
 //! Target `records`: a record of any sixteen words, or one that a session reaches, then a list of
-//! changes to its words and its slot. Each call is made on it, and then calls one after another.
+//! changes to its words and its slot. Each call is made on it, in both forms, and then calls one
+//! after another.
 
 use crate::archive::installer::Words;
-use crate::both::{Both, AFTER};
+use crate::both::{Both, Way, AFTER, WAYS};
 use crate::input::Input;
 use crate::model::image::Inputs;
 use crate::moment::Moment;
@@ -19,11 +20,12 @@ pub fn target(mut head: Input, mut list: Input) {
     }
     let lent = lent(moment.slot.len(), &mut list);
     let piece_length = list.up_to(6);
+    let way = list.pick(&WAYS);
     while !list.has_ended() {
         change(&mut moment, &mut list);
     }
     call_each(&moment, lent, piece_length);
-    call_in_turn(&moment, lent);
+    call_in_turn(&moment, lent, way);
 }
 
 /// Words as the input has them.
@@ -80,29 +82,36 @@ fn session(moment: &Moment, lent: usize) -> Both {
 /// Each call once, each on the record and the slot of this moment.
 fn call_each(moment: &Moment, lent: usize, piece_length: usize) {
     let piece = &moment.next[..piece_length.min(moment.next.len())];
-    let _ = session(moment, lent).erase();
-    let _ = session(moment, lent).fill(piece);
+    for way in WAYS {
+        let _ = session(moment, lent).erase(way);
+        let _ = session(moment, lent).fill(way, piece);
+        let _ = session(moment, lent).close(way, &moment.inputs);
+    }
     let _ = session(moment, lent).ask();
-    let _ = session(moment, lent).close(&moment.inputs);
+    let _ = session(moment, lent).confirm();
 }
 
 /// The calls of an install from this moment on, as far as they go.
-fn call_in_turn(moment: &Moment, lent: usize) {
+fn call_in_turn(moment: &Moment, lent: usize, way: Way) {
     let mut both = session(moment, lent);
-    while both.erase().is_ok() {}
+    while both.erase(way).is_ok() {}
     let mut rest = &moment.next[..];
-    while let Ok(taken @ 1..) = both.fill(rest) {
+    while let Ok(taken @ 1..) = both.fill(way, rest) {
         rest = &rest[taken..];
     }
-    close_and_go_on(&mut both, &moment.inputs);
+    close_and_go_on(&mut both, way, &moment.inputs);
 }
 
-/// After a close that the check answered, all calls are refused.
-fn close_and_go_on(both: &mut Both, inputs: &Inputs) {
+/// After a close that the check answered, all calls are refused, but for a confirm that is due.
+fn close_and_go_on(both: &mut Both, way: Way, inputs: &Inputs) {
+    let _ = both.ask();
+    for way in [way, Way::Memory, Way::Plan] {
+        let _ = both.close(way, inputs);
+    }
+    let _ = both.erase(way);
+    let _ = both.fill(way, &[0]);
     let _ = both.ask();
     for _ in 0..2 {
-        let _ = both.close(inputs);
+        let _ = both.confirm();
     }
-    let _ = both.erase();
-    let _ = both.fill(&[0]);
 }

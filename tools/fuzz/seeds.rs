@@ -14,13 +14,14 @@ const COUNT: usize = 32;
 /// As in lib.rs.
 const HEAD: usize = 96;
 
-/// Erase all, fill all, ask, close: as `Install::step` in calls.rs reads them.
-const INSTALL: [u8; 4] = [0, 3, 8, 9];
+/// Erase all, fill all, ask, close and confirm: as `Install::step` in calls.rs reads them, for a
+/// slot in memory, and for one that a driver writes.
+const INSTALLS: [[u8; 5]; 2] = [[0, 2, 7, 8, 11], [16, 18, 23, 24, 27]];
 
 fn seed(target: &str, random: &mut Random) -> Vec<u8> {
     let mut bytes = random.bytes(HEAD);
     if target == "calls" {
-        bytes.extend(INSTALL);
+        bytes.extend(random.pick(&INSTALLS));
     }
     let list = random.up_to(12);
     bytes.extend(random.bytes(list));

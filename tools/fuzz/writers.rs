@@ -8,7 +8,7 @@ use crate::input::Input;
 use crate::model::image::{Form, Inputs};
 use crate::model::writer::{FirmwareFields, VendorFields};
 use crate::written::{
-    compare_firmware, compare_vendor, firmware_fields, firmware_of, picture_length, v,
+    compare_firmware, compare_vendor, field, firmware_fields, firmware_of, picture_length, v,
     vendor_fields,
 };
 
@@ -59,11 +59,11 @@ impl Fields {
     fn change(&mut self, list: &mut Input) {
         let (vendor, firmware) = (&mut self.vendor, &mut self.firmware);
         match list.up_to(15) {
-            0 => vendor.m = list.byte(),
-            1 => vendor.n = list.byte(),
+            0 => vendor.m = number(list),
+            1 => vendor.n = number(list),
             2 => {
-                vendor.n = list.byte();
-                vendor.keys = list.bytes(32 * usize::from(vendor.n));
+                vendor.n = list.byte().into();
+                vendor.keys = list.bytes(32 * vendor.n as usize);
             }
             3 => resize(&mut vendor.keys, list),
             4 => resize(&mut vendor.string, list),
@@ -73,10 +73,10 @@ impl Fields {
                 vendor.picture = list.bytes(length);
             }
             7 => vendor.expiry = list.word(),
-            8 => vendor.sigmask = list.byte(),
-            9 => vendor.vtrust = list.word() as u16,
+            8 => vendor.sigmask = number(list),
+            9 => vendor.vtrust = field(65_535, list),
             10 => firmware.expiry = list.word(),
-            11 => firmware.sigmask = list.byte(),
+            11 => firmware.sigmask = number(list),
             12 => {
                 firmware.v = v(list);
                 self.own_v = list.one_in(2);
@@ -86,7 +86,8 @@ impl Fields {
                 let length = code_length(firmware.v, list);
                 self.code = list.bytes(length);
             }
-            _ => (vendor.major, firmware.version[0]) = (list.byte(), list.byte()),
+            14 => vendor.minor = number(list),
+            _ => (vendor.major, firmware.version[0]) = (number(list), list.byte()),
         }
     }
 
@@ -100,6 +101,15 @@ impl Fields {
             let file = [&vendor[..], &firmware, &self.code].concat();
             compare_all(Form::File, &file, file.len(), &self.inputs);
         }
+    }
+}
+
+/// A byte, mostly, or a word that no byte holds.
+fn number(list: &mut Input) -> u32 {
+    let (byte, any) = (list.byte().into(), list.word());
+    match list.one_in(4) {
+        true => list.pick(&[256 + byte, byte << 8, any]),
+        false => byte,
     }
 }
 

@@ -4,7 +4,7 @@
 
 use crate::archive::installer::{self as archive, Words};
 use crate::model::image::{Inputs, Refusal};
-use crate::model::installer::{self as model, Asked, Record};
+use crate::model::installer::{self as model, Asked, Operation, Record};
 use std::ops::Range;
 
 /// Bytes before a slot, and after it. The slot stands at an odd place. One that is lent too long
@@ -23,6 +23,15 @@ pub struct Both {
     /// How much of the slot the next calls are lent.
     lent: usize,
 }
+
+/// The two forms of erase, fill and close: one makes its operation, the other hands it back.
+#[derive(Clone, Copy, Debug, PartialEq, Eq)]
+pub enum Way {
+    Memory,
+    Plan,
+}
+
+pub const WAYS: [Way; 2] = [Way::Memory, Way::Plan];
 
 /// The session that words stand for. Words 8 to 15 are reserved.
 fn record_of(words: &Words) -> Record {
@@ -114,51 +123,111 @@ impl Both {
         BEFORE..BEFORE + self.lent
     }
 
-    /// A record that the model leaves as it was stays as it was. The reserved words always stay.
-    fn compare(&self, words_before: &Words, record_before: &Record) {
-        assert!(self.memory == self.expected, "the slots differ");
+    /// Makes a call by both. A record that the model leaves as it was stays as it was. The reserved
+    /// words always stay.
+    fn call<T: PartialEq + std::fmt::Debug>(
+        &mut self,
+        name: &str,
+        by_archive: impl FnOnce(&mut Words, &mut [u8]) -> T,
+        by_model: impl FnOnce(&mut Record, &mut [u8]) -> T,
+    ) -> T {
+        let (words, record, view) = (self.words, self.record.clone(), self.view());
+        let answer = by_archive(&mut self.words, &mut self.memory[view.clone()]);
+        let expected = by_model(&mut self.record, &mut self.expected[view]);
+        assert_eq!(answer, expected, "{name}");
+        assert!(self.memory == self.expected, "{name}: the slots differ");
         assert_same(&record_of(&self.words), &self.record);
-        assert_eq!(self.words[8..], words_before[8..], "the reserved words");
-        if self.record == *record_before {
-            assert_eq!(self.words[..8], words_before[..8], "an unchanged record");
+        assert_eq!(self.words[8..], words[8..], "{name}: the reserved words");
+        if self.record == record {
+            assert_eq!(self.words, words, "{name}: an unchanged record");
+        }
+        answer
+    }
+
+    /// Makes an operation that a call has handed back. The call and this are one step.
+    fn make(&mut self, operation: Operation) {
+        let view = self.view();
+        operation.make(&mut self.memory[view.clone()]);
+        operation.make(&mut self.expected[view]);
+    }
+
+    pub fn erase(&mut self, way: Way) -> Result<(), u32> {
+        match way {
+            Way::Memory => self.call("erase", archive::erase, model::erase),
+            Way::Plan => {
+                let by_model = |record: &mut Record, slot: &mut [u8]| {
+                    model::plan_erase(record, slot) // the slot is only read
+                };
+                let operation = self.call("plan_erase", archive::plan_erase, by_model)?;
+                self.make(operation);
+                Ok(())
+            }
         }
     }
 
-    pub fn erase(&mut self) -> Result<(), u32> {
-        let (words, record, view) = (self.words, self.record.clone(), self.view());
-        let answer = archive::erase(&mut self.words, &mut self.memory[view.clone()]);
-        let by_model = model::erase(&mut self.record, &mut self.expected[view]);
-        assert_eq!(answer, by_model, "erase");
-        self.compare(&words, &record);
-        answer
+    pub fn fill(&mut self, way: Way, piece: &[u8]) -> Result<usize, u32> {
+        match way {
+            Way::Memory => self.call(
+                "fill",
+                |words, slot| archive::fill(words, piece, slot),
+                |record, slot| model::fill(record, piece, slot),
+            ),
+            Way::Plan => {
+                let (taken, operation) = self.call(
+                    "plan_fill",
+                    |words, slot| archive::plan_fill(words, piece, slot),
+                    |record, slot| model::plan_fill(record, piece, slot),
+                )?;
+                self.make(operation);
+                Ok(taken)
+            }
+        }
     }
 
-    pub fn fill(&mut self, piece: &[u8]) -> Result<usize, u32> {
-        let (words, record, view) = (self.words, self.record.clone(), self.view());
-        let answer = archive::fill(&mut self.words, piece, &mut self.memory[view.clone()]);
-        let by_model = model::fill(&mut self.record, piece, &mut self.expected[view]);
-        assert_eq!(answer, by_model, "fill");
-        self.compare(&words, &record);
-        answer
-    }
-
-    pub fn ask(&self) -> Result<Asked, u32> {
-        let answer = archive::ask(&self.words, &self.memory[self.view()]);
-        let by_model = model::ask(&self.record, &self.expected[self.view()]);
-        assert_eq!(answer, by_model, "ask");
-        self.compare(&self.words, &self.record);
-        answer
+    /// Ask, and the places of the signatures beside it.
+    pub fn ask(&mut self) -> Result<Asked, u32> {
+        self.call(
+            "find_signatures",
+            |words, slot| archive::signatures(words, slot),
+            |record, slot| model::signatures(record, slot),
+        );
+        self.call(
+            "ask",
+            |words, slot| archive::ask(words, slot),
+            |record, slot| model::ask(record, slot),
+        )
     }
 
     /// A close alters nothing in the record but the phase and the count.
-    pub fn close(&mut self, inputs: &Inputs) -> Result<(), Refusal> {
-        let (words, record, view) = (self.words, self.record.clone(), self.view());
-        let answer = archive::close(&mut self.words, &mut self.memory[view.clone()], inputs);
-        let by_model = model::close(&mut self.record, &mut self.expected[view], inputs);
-        assert_eq!(answer, by_model, "close");
-        self.compare(&words, &record);
+    pub fn close(&mut self, way: Way, inputs: &Inputs) -> Result<(), Refusal> {
+        let words = self.words;
+        let answer = match way {
+            Way::Memory => self.call(
+                "close",
+                |words, slot| archive::close(words, slot, inputs),
+                |record, slot| model::close(record, slot, inputs),
+            ),
+            Way::Plan => {
+                let answer = self.call(
+                    "plan_close",
+                    |words, slot| archive::plan_close(words, slot, inputs),
+                    |record, slot| model::plan_close(record, slot, inputs),
+                );
+                answer.map(|operation| self.make(operation))
+            }
+        };
         assert_eq!(self.words[1..5], words[1..5]);
         assert_eq!(self.words[6..8], words[6..8]);
+        answer
+    }
+
+    /// A confirm alters nothing in the record but the phase.
+    pub fn confirm(&mut self) -> Result<(), u32> {
+        let words = self.words;
+        let answer = self.call("confirm", archive::confirm, |record, slot| {
+            model::confirm(record, slot)
+        });
+        assert_eq!(self.words[1..], words[1..]);
         answer
     }
 }

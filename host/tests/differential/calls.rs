@@ -1,19 +1,23 @@
-//! Lists of calls after one begin: most of them in turn, the rest at any time, and the list may
-//! end anywhere. On a slot that nobody else writes, "done means landed" is watched after each.
+//! Lists of calls after one begin, in both forms: most of them in turn, the rest at any time, and
+//! the list may end anywhere. On a slot that nobody else writes, "done means landed" is watched
+//! after each.
 
-use crate::both::{Both, AFTER};
+use crate::both::{Both, Way, AFTER, WAYS};
 use crate::common::random::Random;
 use crate::draft::{any_inputs, slot_length, Draft};
 use crate::faults::faulty_draft;
 use crate::landed::Landed;
 use crate::model::image::{Form, Inputs};
-use crate::tally::{cases, outcome, outcome_of_close, Outcome, Tally, NOT_ERASED, OUTCOMES};
+use crate::tally::{
+    cases, each_call, outcome, outcome_of_close, outcomes, Outcome, Tally, NOT_ERASED, NOT_LANDED,
+};
 
 enum Call {
-    Erase,
-    Fill(Vec<u8>),
+    Erase(Way),
+    Fill(Way, Vec<u8>),
     Ask,
-    Close(Inputs),
+    Close(Way, Inputs),
+    Confirm,
 }
 
 /// What one list is about: the file that is given and the inputs that fit it.
@@ -57,42 +61,50 @@ fn piece(plan: &Plan, given: usize, random: &mut Random) -> Vec<u8> {
 /// The call whose turn it is, mostly.
 fn next_call(plan: &Plan, landed: &Landed, random: &mut Random) -> Call {
     let turn = match (landed.is_erasing(), landed.all_given()) {
-        _ if random.one_in(10) => random.up_to(3),
+        _ if random.one_in(10) => random.up_to(4),
+        _ if landed.is_waiting() => 4,
         (true, _) => 0,
         (false, false) => 1,
         (false, true) => random.pick(&[2, 3]),
     };
+    let way = random.pick(&WAYS);
     match turn {
-        0 => Call::Erase,
-        1 => Call::Fill(piece(plan, landed.given(), random)),
+        0 => Call::Erase(way),
+        1 => Call::Fill(way, piece(plan, landed.given(), random)),
         2 => Call::Ask,
-        _ if random.one_in(8) => Call::Close(any_inputs(random)),
-        _ => Call::Close(plan.inputs),
+        3 if random.one_in(8) => Call::Close(way, any_inputs(random)),
+        3 => Call::Close(way, plan.inputs),
+        _ => Call::Confirm,
     }
 }
 
 /// Makes the call by both, and shows its answer to the watcher.
 fn make(call: &Call, both: &mut Both, landed: &mut Landed) -> Outcome {
     match call {
-        Call::Erase => {
-            let answer = both.erase();
+        Call::Erase(way) => {
+            let answer = both.erase(*way);
             landed.erase(answer, both.slot());
-            outcome("erase", &answer)
+            outcome("erase", *way, &answer)
         }
-        Call::Fill(piece) => {
-            let answer = both.fill(piece);
+        Call::Fill(way, piece) => {
+            let answer = both.fill(*way, piece);
             landed.fill(piece, answer, both.slot());
-            outcome("fill", &answer)
+            outcome("fill", *way, &answer)
         }
         Call::Ask => {
             let answer = both.ask();
-            landed.ask(both.slot());
-            outcome("ask", &answer)
+            landed.ask(&answer, both.slot());
+            outcome("ask", Way::Memory, &answer)
         }
-        Call::Close(inputs) => {
-            let answer = both.close(inputs);
-            landed.close(inputs, answer, both.slot());
-            outcome_of_close(&answer)
+        Call::Close(way, inputs) => {
+            let answer = both.close(*way, inputs);
+            landed.close(*way, inputs, answer, both.slot());
+            outcome_of_close(*way, &answer)
+        }
+        Call::Confirm => {
+            let answer = both.confirm();
+            landed.confirm(answer, both.slot());
+            outcome("confirm", Way::Memory, &answer)
         }
     }
 }
@@ -115,7 +127,7 @@ fn done_means_landed() {
             }
         }
     }
-    tally.assert_exactly(5, &OUTCOMES);
+    tally.assert_exactly(5, &outcomes());
 }
 
 /// A list after a refused begin changes nothing.
@@ -130,26 +142,28 @@ fn calls_after_a_refused_begin() {
         let (refused, mut both) = Both::begin(&found, file_length);
         assert_eq!(refused, Some(18));
         let mut landed = Landed::after_begin(refused, &found, file_length);
-        for turn in 0..4 {
-            let call = match turn {
-                0 => Call::Erase,
-                1 => Call::Fill(piece(&plan, 0, &mut random)),
-                2 => Call::Ask,
-                _ => Call::Close(plan.inputs),
-            };
-            tally.count(make(&call, &mut both, &mut landed));
+        for way in WAYS {
+            for call in [
+                Call::Erase(way),
+                Call::Fill(way, piece(&plan, 0, &mut random)),
+                Call::Ask,
+                Call::Close(way, plan.inputs),
+                Call::Confirm,
+            ] {
+                tally.count(make(&call, &mut both, &mut landed));
+            }
         }
     }
-    let refused = ["erase", "fill", "ask", "close"].map(|call| (call, 19, 0));
-    tally.assert_exactly(2_000, &refused);
+    tally.assert_exactly(2_000, &each_call(19));
 }
 
-/// Writes a byte into the slot, mostly where a call is about to store. Gives what stood there.
-fn meddle(both: &mut Both, given: usize, random: &mut Random) -> (usize, u8) {
-    let length = both.slot().len();
-    let (first, current) = (random.up_to(3), (given / 4 * 4 + random.up_to(3)) % length);
-    let any = random.up_to(length - 1);
-    let at = random.pick(&[first, current, current, any]);
+/// Writes a byte into the slot, mostly where a call is about to store: the first word once all
+/// others are. Gives what stood there.
+fn meddle(both: &mut Both, plan: &Plan, given: usize, random: &mut Random) -> (usize, u8) {
+    let next = given / 4 * 4 % plan.file.len();
+    let (first, next) = (random.up_to(3), next + random.up_to(3));
+    let any = random.up_to(both.slot().len() - 1);
+    let at = random.pick(&[first, next, next, any]);
     let before = both.slot()[at];
     both.poke(at, random.pick(&[0, 127, 254, 255]));
     (at, before)
@@ -163,14 +177,24 @@ fn lend(both: &mut Both, random: &mut Random) {
 }
 
 /// One call of an install, the one whose turn it is. Gives the bytes taken.
-fn call_in_turn(plan: &Plan, given: usize, both: &mut Both, tally: &mut Tally<Outcome>) -> usize {
+fn call_in_turn(
+    plan: &Plan,
+    given: usize,
+    both: &mut Both,
+    random: &mut Random,
+    tally: &mut Tally<Outcome>,
+) -> usize {
+    let way = random.pick(&WAYS);
     if given < plan.file.len() {
-        let answer = both.fill(&plan.file[given..]);
-        tally.count(outcome("fill", &answer));
+        let answer = both.fill(way, &plan.file[given..]);
+        tally.count(outcome("fill", way, &answer));
         return answer.unwrap_or(0);
     }
-    tally.count(outcome("ask", &both.ask()));
-    tally.count(outcome_of_close(&both.close(&plan.inputs)));
+    tally.count(match random.up_to(2) {
+        0 => outcome("ask", Way::Memory, &both.ask()),
+        1 => outcome_of_close(way, &both.close(way, &plan.inputs)),
+        _ => outcome("confirm", Way::Memory, &both.confirm()),
+    });
     0
 }
 
@@ -185,25 +209,28 @@ fn meddled_slots() {
         let found = found(slot_length(plan.file.len(), &mut random), &mut random);
         let (_, mut both) = Both::begin(&found, plan.file.len());
         for _ in 0..found.len() / 4_096 {
-            tally.count(outcome("erase", &both.erase()));
+            let way = random.pick(&WAYS);
+            tally.count(outcome("erase", way, &both.erase(way)));
         }
         let mut given = 0;
-        let every = random.pick(&[2, 20, 200]);
+        let while_filling = random.pick(&[2, 20, 200]);
         for _ in 0..plan.file.len() / 4 + 40 {
-            if random.one_in(every) {
-                let (at, before) = meddle(&mut both, given, &mut random);
+            let is_filling = given < plan.file.len();
+            if random.one_in(if is_filling { while_filling } else { 2 }) {
+                let (at, before) = meddle(&mut both, &plan, given, &mut random);
                 lend(&mut both, &mut random);
-                given += call_in_turn(&plan, given, &mut both, &mut tally);
+                let taken = call_in_turn(&plan, given, &mut both, &mut random, &mut tally);
+                given += taken;
                 both.lend(found.len());
                 if !random.one_in(100) {
                     both.poke(at, before);
                 }
             } else {
-                given += call_in_turn(&plan, given, &mut both, &mut tally);
+                given += call_in_turn(&plan, given, &mut both, &mut random, &mut tally);
             }
         }
     }
-    let in_turn = [("fill", 0, 0), ("ask", 0, 0), ("close", 0, 0)];
-    let out_of_turn = [("fill", 19, 0), ("ask", 19, 0), ("close", 19, 0)];
-    tally.assert_seen(100, &[&NOT_ERASED[..], &in_turn, &out_of_turn].concat());
+    let not_erasing = &each_call(19)[2..];
+    let wanted = [&NOT_ERASED[..], &NOT_LANDED, &each_call(0), not_erasing].concat();
+    tally.assert_seen(50, &wanted);
 }

@@ -93,6 +93,29 @@ fn every_row() {
     }
 }
 
+/// A verdict is yes if its word is 1, and no other word is.
+#[test]
+fn verdict_words() {
+    let mut random = Random::new(106);
+    let mut tally = Tally::new("checks with any word as a verdict");
+    for form in FORMS {
+        for bit in 0..32 {
+            for _ in 0..cases(100) {
+                let mut draft = Draft::small(form, &mut random);
+                let any = random.word();
+                let words = [0, 1, 1 << bit, 1 | 1 << bit, u32::MAX, any];
+                draft.inputs.vendor = random.pick(&words);
+                draft.inputs.firmware = random.pick(&words);
+                let row = compare_draft(form, &draft);
+                let both = (draft.inputs.vendor, draft.inputs.firmware);
+                assert_eq!(row == ACCEPTED, both == (1, 1), "{both:?}");
+                tally.count(row);
+            }
+        }
+    }
+    tally.assert_exactly(100, &["S11", "S20", ACCEPTED]);
+}
+
 /// The order of the rows: two faults, put in in either order.
 #[test]
 fn every_pair_of_rows() {

@@ -2,7 +2,7 @@
 //! pieces of an image apart, so that a fault can be put into one of them.
 
 use crate::common::random::Random;
-use crate::model::image::{Form, Inputs};
+use crate::model::image::{Form, Inputs, YES};
 use crate::model::writer::{firmware_header, vendor_header, FirmwareFields, VendorFields};
 
 /// An image in pieces, and inputs with which it is accepted.
@@ -111,9 +111,15 @@ pub fn inputs(random: &mut Random) -> Inputs {
         time,
         m,
         n,
-        vendor: true,
-        firmware: true,
+        vendor: YES,
+        firmware: YES,
     }
+}
+
+/// A verdict of no: any word but 1.
+pub fn no(random: &mut Random) -> u32 {
+    let any = random.word() | 2;
+    random.pick(&[0, 0, 2, 3, 0x100, 0x101, 0x0100_0001, u32::MAX, any])
 }
 
 /// Inputs of any kind: now and then an impossible policy or a verdict of no.
@@ -126,8 +132,11 @@ pub fn any_inputs(random: &mut Random) -> Inputs {
     if random.one_in(8) {
         inputs.n = random.pick(&[0, 1, 9, 256, any]);
     }
-    inputs.vendor = !random.one_in(8);
-    inputs.firmware = !random.one_in(8);
+    for verdict in [&mut inputs.vendor, &mut inputs.firmware] {
+        if random.one_in(8) {
+            *verdict = no(random);
+        }
+    }
     inputs
 }
 
@@ -148,7 +157,7 @@ fn expiry(time: u32, random: &mut Random) -> u32 {
 }
 
 fn vendor_fields(inputs: &Inputs, random: &mut Random) -> VendorFields {
-    let n = 1 + random.up_to(7) as u8;
+    let n = 1 + random.up_to(7) as u32;
     let any_string = random.up_to(255);
     let string = random.pick(&[0, 1, 2, 3, 4, 5, 155, 255, any_string]);
     let picture = match random.one_in(64) {
@@ -157,13 +166,13 @@ fn vendor_fields(inputs: &Inputs, random: &mut Random) -> VendorFields {
     };
     VendorFields {
         expiry: expiry(inputs.time, random),
-        major: random.byte(),
-        minor: random.byte(),
-        m: 1 + random.up_to(usize::from(n) - 1) as u8,
+        major: random.byte().into(),
+        minor: random.byte().into(),
+        m: 1 + random.up_to(n as usize - 1) as u32,
         n,
-        vtrust: random.word() as u16,
-        sigmask: good_mask(inputs.m, inputs.n, random),
-        keys: random.bytes(32 * usize::from(n)),
+        vtrust: random.word() & 0xffff,
+        sigmask: good_mask(inputs.m, inputs.n, random).into(),
+        keys: random.bytes(32 * n as usize),
         string: random.bytes(string),
         picture: random.bytes(picture),
         sig: sig(random),
@@ -181,7 +190,7 @@ fn firmware_fields(
         expiry: expiry(inputs.time, random),
         version: random.word().to_le_bytes(),
         fix: random.word().to_le_bytes(),
-        sigmask: good_mask(vendor.m.into(), vendor.n.into(), random),
+        sigmask: good_mask(vendor.m, vendor.n, random).into(),
         sig: sig(random),
     }
 }

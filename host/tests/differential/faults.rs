@@ -2,7 +2,7 @@
 //! put in beside others it shows which of them comes first.
 
 use crate::common::random::Random;
-use crate::draft::Draft;
+use crate::draft::{no, Draft};
 use crate::model::image::Form;
 use crate::tally::STEPS;
 
@@ -102,7 +102,7 @@ fn s5(draft: &mut Draft, _: Form, random: &mut Random) {
 }
 
 fn s6(draft: &mut Draft, _: Form, random: &mut Random) {
-    let (m, n) = (draft.fields.m, draft.fields.n);
+    let (m, n) = (draft.fields.m as u8, draft.fields.n as u8);
     let impossible = [
         (0, n),
         (n + 1, n),
@@ -154,8 +154,8 @@ fn s10(draft: &mut Draft, _: Form, random: &mut Random) {
     draft.vendor[at] = bad_mask(draft.inputs.m.max(1), n, random);
 }
 
-fn s11(draft: &mut Draft, _: Form, _: &mut Random) {
-    draft.inputs.vendor = false;
+fn s11(draft: &mut Draft, _: Form, random: &mut Random) {
+    draft.inputs.vendor = no(random);
 }
 
 fn s12(draft: &mut Draft, _: Form, random: &mut Random) {
@@ -210,11 +210,11 @@ fn s18(draft: &mut Draft, _: Form, random: &mut Random) {
 }
 
 fn s19(draft: &mut Draft, _: Form, random: &mut Random) {
-    draft.firmware[959] = bad_mask(draft.fields.m.into(), draft.fields.n.into(), random);
+    draft.firmware[959] = bad_mask(draft.fields.m, draft.fields.n, random);
 }
 
-fn s20(draft: &mut Draft, _: Form, _: &mut Random) {
-    draft.inputs.firmware = false;
+fn s20(draft: &mut Draft, _: Form, random: &mut Random) {
+    draft.inputs.firmware = no(random);
 }
 
 fn s21(draft: &mut Draft, _: Form, random: &mut Random) {

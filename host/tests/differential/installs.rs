@@ -1,7 +1,7 @@
-//! Whole installs with the power cut after every call: what the boot check says of the slot as it
+//! Whole installs, in both forms, with the power cut after every call: what the boot check says of the slot as it
 //! then stands, by the archive and by the model.
 
-use crate::both::Both;
+use crate::both::{Both, Way, WAYS};
 use crate::checks;
 use crate::common::random::Random;
 use crate::draft::{slot_length, Draft};
@@ -19,9 +19,9 @@ struct Install<'a> {
 }
 
 impl Install<'_> {
-    fn erase_all(&mut self) {
+    fn erase_all(&mut self, random: &mut Random) {
         while self.landed.is_erasing() {
-            let answer = self.both.erase();
+            let answer = self.both.erase(random.pick(&WAYS));
             self.landed.erase(answer, self.both.slot());
             (self.look)(self.both.slot());
         }
@@ -32,17 +32,23 @@ impl Install<'_> {
             let rest = &self.file[self.landed.given()..];
             let length = random.pick(&[1, 2, 3, 4, 4, 4, 4, 64]);
             let piece = &rest[..length.min(rest.len())];
-            let answer = self.both.fill(piece);
+            let answer = self.both.fill(random.pick(&WAYS), piece);
             self.landed.fill(piece, answer, self.both.slot());
             (self.look)(self.both.slot());
         }
     }
 
-    fn close(&mut self, inputs: &Inputs) -> Result<(), Refusal> {
+    /// Close, and confirm where it is due.
+    fn close(&mut self, way: Way, inputs: &Inputs) -> Result<(), Refusal> {
         assert!(self.both.ask().is_ok());
-        let answer = self.both.close(inputs);
-        self.landed.close(inputs, answer, self.both.slot());
+        let answer = self.both.close(way, inputs);
+        self.landed.close(way, inputs, answer, self.both.slot());
         (self.look)(self.both.slot());
+        if self.landed.is_waiting() {
+            let answer = self.both.confirm();
+            self.landed.confirm(answer, self.both.slot());
+            (self.look)(self.both.slot());
+        }
         answer
     }
 }
@@ -65,9 +71,9 @@ fn install(
         file,
         look,
     };
-    install.erase_all();
+    install.erase_all(random);
     install.fill_all(random);
-    (install.close(inputs), install.both)
+    (install.close(random.pick(&WAYS), inputs), install.both)
 }
 
 /// Before the first erase the slot starts as it was found; then it does not start; after Done it

@@ -1,11 +1,14 @@
 //! "Done means landed" (specification, 11), watched from outside: a history told from the calls and
 //! their answers alone, and after each call what must then be true of the slot, whichever call was
-//! the last before the power failed.
+//! the last before the power failed. A call that hands its operation back, and that operation made,
+//! are one step.
 
 use crate::archive::image as archive;
+use crate::both::Way;
 use crate::common::random::Random;
 use crate::draft::any_inputs;
 use crate::model::image::{check, Form, Inputs, Refusal};
+use crate::model::installer::Asked;
 
 const PAGE: usize = 4_096;
 
@@ -13,13 +16,18 @@ const PAGE: usize = 4_096;
 pub struct Landed {
     /// What the slot held at begin.
     found: Vec<u8>,
+    /// What the calls so far say that it holds.
+    then: Vec<u8>,
     file_length: usize,
     open: bool,
     erase_calls: usize,
     given: Vec<u8>,
     /// Whether an erase was not refused.
     erased: bool,
-    done: bool,
+    /// Whether a close answered Done, or accepted.
+    stored: bool,
+    /// Whether a close answered accepted, and no confirm has answered Done since.
+    waiting: bool,
     random: Random,
 }
 
@@ -27,12 +35,14 @@ impl Landed {
     pub fn after_begin(refused: Option<u32>, found: &[u8], file_length: usize) -> Landed {
         Landed {
             found: found.to_vec(),
+            then: found.to_vec(),
             file_length,
             open: refused.is_none(),
             erase_calls: 0,
             given: Vec::new(),
             erased: false,
-            done: false,
+            stored: false,
+            waiting: false,
             random: Random::new(file_length as u64),
         }
     }
@@ -58,13 +68,25 @@ impl Landed {
         self.open && !self.all_erased()
     }
 
+    /// Whether a confirm is next.
+    pub fn is_waiting(&self) -> bool {
+        self.waiting
+    }
+
     pub fn is_over(&self) -> bool {
-        !self.open
+        !self.open && !self.waiting
+    }
+
+    fn is_full(&self) -> bool {
+        self.open && self.all_erased() && self.all_given()
     }
 
     pub fn erase(&mut self, answer: Result<(), u32>, slot: &[u8]) {
-        if self.open && !self.all_erased() {
+        if self.is_erasing() {
             assert_eq!(answer, Ok(()), "an erase whose turn it is");
+            self.then[PAGE * self.erase_calls..][..PAGE].fill(255);
+        } else {
+            assert_eq!(answer, Err(19), "an erase out of turn");
         }
         self.erased |= answer.is_ok();
         self.erase_calls += usize::from(self.open);
@@ -82,18 +104,31 @@ impl Landed {
             assert_eq!(answer, Ok(allowed), "a fill whose turn it is");
             assert!(allowed > 0 || piece.is_empty() || missing == 0);
             self.given.extend(&piece[..allowed]);
+            let complete = self.given.len() / 4 * 4;
+            if allowed == to_the_word && complete > 4 {
+                self.store(complete - 4);
+            }
         } else {
             assert_eq!(answer, Err(19), "a fill out of turn");
         }
         self.look_at(slot);
     }
 
-    pub fn ask(&mut self, slot: &[u8]) {
+    /// The given word at its place.
+    fn store(&mut self, at: usize) {
+        self.then[at..at + 4].copy_from_slice(&self.given[at..at + 4]);
+    }
+
+    pub fn ask(&mut self, answer: &Result<Asked, u32>, slot: &[u8]) {
+        match self.is_full() {
+            true => assert!(answer.is_ok(), "an ask whose turn it is"),
+            false => assert_eq!(*answer, Err(19), "an ask out of turn"),
+        }
         self.look_at(slot);
     }
 
-    pub fn close(&mut self, inputs: &Inputs, answer: Result<(), Refusal>, slot: &[u8]) {
-        if self.open && self.all_erased() && self.all_given() {
+    pub fn close(&mut self, way: Way, inputs: &Inputs, answer: Result<(), Refusal>, slot: &[u8]) {
+        if self.is_full() {
             let by_file_check = check(Form::File, &self.given, inputs).map(|_| ());
             assert_eq!(answer, by_file_check, "a close whose turn it is");
             self.open = false;
@@ -102,7 +137,9 @@ impl Landed {
             assert_eq!(number, Err(19), "a close out of turn");
         }
         if answer.is_ok() {
-            self.done = true;
+            self.stored = true;
+            self.waiting = way == Way::Plan;
+            self.store(0);
             assert!(
                 archive::check(Form::Slot, slot, inputs).is_ok(),
                 "the boot check"
@@ -111,11 +148,19 @@ impl Landed {
         self.look_at(slot);
     }
 
+    pub fn confirm(&mut self, answer: Result<(), u32>, slot: &[u8]) {
+        let expected = if self.waiting { Ok(()) } else { Err(19) };
+        assert_eq!(answer, expected, "a confirm");
+        self.waiting = false;
+        self.look_at(slot);
+    }
+
     /// What holds after any call.
     fn look_at(&mut self, slot: &[u8]) {
+        assert!(slot == self.then, "what the calls so far say");
         if !self.erased {
             assert!(slot == self.found, "as found until the first erase");
-        } else if !self.done {
+        } else if !self.stored {
             assert_eq!(slot[..4], [255; 4], "the first word is erased");
             let answer = archive::check(Form::Slot, slot, &any_inputs(&mut self.random));
             assert_eq!(answer.map_err(|refusal| refusal.number), Err(1));

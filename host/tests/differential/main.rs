@@ -16,12 +16,15 @@ mod moment;
 mod tally;
 mod written;
 
+mod boards;
 mod calls;
 mod checks;
 mod damage;
+mod driven;
 mod from_c;
 mod installs;
 mod records;
+mod sessions;
 mod signing;
 mod wrapper;
 mod writers;

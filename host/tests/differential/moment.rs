@@ -6,6 +6,10 @@ use crate::draft::{any_inputs, slot_length};
 use crate::faults::faulty_draft;
 use crate::model::image::{Form, Inputs};
 
+/// Phases of a record.
+const OPEN: usize = 1;
+const ACCEPTED: usize = 2;
+
 pub struct Moment {
     pub words: Words,
     pub slot: Vec<u8>,
@@ -15,13 +19,25 @@ pub struct Moment {
     pub inputs: Inputs,
 }
 
-/// What a session has done: pages erased, and bytes taken.
-fn stage(pages: usize, file_length: usize, random: &mut Random) -> (usize, usize) {
-    match random.up_to(3) {
-        0 => (random.up_to(pages), 0),
-        1 => (pages, random.up_to(file_length)),
-        _ => (pages, file_length),
+/// What a session has done: its phase, pages erased, and bytes taken.
+fn stage(pages: usize, file_length: usize, random: &mut Random) -> [usize; 3] {
+    match random.up_to(4) {
+        0 => [OPEN, random.up_to(pages), 0],
+        1 => [OPEN, pages, random.up_to(file_length)],
+        2 => [ACCEPTED, pages, file_length],
+        _ => [OPEN, pages, file_length],
     }
+}
+
+/// The slot's first word once the file is accepted: the file's own, mostly.
+fn first_word(file: &[u8], random: &mut Random) -> [u8; 4] {
+    let mut word: [u8; 4] = file[..4].try_into().expect("four bytes");
+    match random.up_to(5) {
+        0 => word = [255; 4],
+        1 => word[random.up_to(3)] ^= 1 << random.up_to(7),
+        _ => (),
+    }
+    word
 }
 
 /// The first word as the record has it once it is complete, and the word in progress. What they
@@ -43,7 +59,7 @@ impl Moment {
         let draft = faulty_draft(1, Form::File, random);
         let file = draft.file();
         let slot_length = slot_length(file.len(), random);
-        let (erased, taken) = stage(slot_length / 4_096, file.len(), random);
+        let [phase, erased, taken] = stage(slot_length / 4_096, file.len(), random);
         let complete = taken / 4 * 4;
 
         let mut slot = random.bytes(slot_length);
@@ -52,8 +68,13 @@ impl Moment {
             slot[4..complete].copy_from_slice(&file[4..complete]);
         }
 
-        let operations = erased + (complete / 4).saturating_sub(1);
-        let numbers = [1, slot_length, file.len(), erased, taken, operations];
+        let mut operations = erased + (complete / 4).saturating_sub(1);
+        if phase == ACCEPTED {
+            operations += 1;
+            slot[..4].copy_from_slice(&first_word(&file, random));
+        }
+
+        let numbers = [phase, slot_length, file.len(), erased, taken, operations];
         let mut words = [0; 16];
         words[..6].copy_from_slice(&numbers.map(|number| number as u32));
         words[6..8].copy_from_slice(&kept(&file, taken, random));

@@ -1,10 +1,12 @@
 //! Begin with any lengths, then single calls on records that no session may have made: words at
 //! random, records that a session reaches, and those with one number off.
 
-use crate::both::{compare_begin, Both, AFTER};
+use crate::both::{compare_begin, Both, Way, AFTER, WAYS};
 use crate::common::random::Random;
 use crate::moment::Moment;
-use crate::tally::{cases, outcome, outcome_of_close, Outcome, Tally, NOT_ERASED, OUTCOMES};
+use crate::tally::{
+    cases, each_call, outcome, outcome_of_close, outcomes, Outcome, Tally, NOT_ERASED, NOT_LANDED,
+};
 
 #[test]
 fn begins() {
@@ -60,10 +62,14 @@ fn count_each_call(moment: &Moment, random: &mut Random, tally: &mut Tally<Outco
     };
     let piece_length = random.up_to(6);
     let piece = &moment.next[..piece_length.min(moment.next.len())];
-    tally.count(outcome("erase", &session().erase()));
-    tally.count(outcome("fill", &session().fill(piece)));
-    tally.count(outcome("ask", &session().ask()));
-    tally.count(outcome_of_close(&session().close(&moment.inputs)));
+    for way in WAYS {
+        tally.count(outcome("erase", way, &session().erase(way)));
+        tally.count(outcome("fill", way, &session().fill(way, piece)));
+        let answer = session().close(way, &moment.inputs);
+        tally.count(outcome_of_close(way, &answer));
+    }
+    tally.count(outcome("ask", Way::Memory, &session().ask()));
+    tally.count(outcome("confirm", Way::Memory, &session().confirm()));
 }
 
 #[test]
@@ -74,8 +80,7 @@ fn words_at_random() {
         let moment = Moment::impossible(&mut random);
         count_each_call(&moment, &mut random, &mut tally);
     }
-    let refused = ["erase", "fill", "ask", "close"].map(|call| (call, 19, 0));
-    tally.assert_seen(1_000, &refused);
+    tally.assert_seen(1_000, &each_call(19));
 }
 
 #[test]
@@ -86,7 +91,7 @@ fn records_that_a_session_reaches() {
         let moment = Moment::live(&mut random);
         count_each_call(&moment, &mut random, &mut tally);
     }
-    tally.assert_exactly(50, &OUTCOMES);
+    tally.assert_exactly(50, &[&outcomes()[..], &NOT_LANDED].concat());
 }
 
 #[test]
@@ -105,7 +110,7 @@ fn records_with_one_number_off() {
         };
         count_each_call(&moment, &mut random, &mut tally);
     }
-    tally.assert_seen(50, &OUTCOMES);
+    tally.assert_seen(20, &outcomes());
 }
 
 /// The word about to be stored over is written: one byte of it, or all of it with the very bytes
@@ -124,6 +129,24 @@ fn words_that_are_not_erased() {
         count_each_call(&moment, &mut random, &mut tally);
     }
     tally.assert_seen(1_000, &NOT_ERASED);
+    tally.assert_seen(500, &NOT_LANDED);
+}
+
+/// Accepted, and the first word stands: a record whose file is not whole, though its count agrees,
+/// is one that no session reaches.
+#[test]
+fn accepted_too_early() {
+    let mut random = Random::new(506);
+    let mut tally = Tally::new("calls on records that are accepted too early");
+    for _ in 0..cases(20_000) {
+        let mut moment = Moment::live(&mut random);
+        moment.words[0] = 2;
+        moment.words[5] = moment.words[3] + moment.words[4] / 4;
+        moment.slot[..4].copy_from_slice(&moment.words[6].to_le_bytes());
+        count_each_call(&moment, &mut random, &mut tally);
+    }
+    let confirmed = [("confirm", 0, 0)];
+    tally.assert_exactly(5_000, &[&each_call(19)[..], &confirmed].concat());
 }
 
 /// The reserved words are not read.
@@ -138,13 +161,5 @@ fn reserved_words() {
         }
         count_each_call(&moment, &mut random, &mut tally);
     }
-    tally.assert_seen(
-        20,
-        &[
-            ("erase", 0, 0),
-            ("fill", 0, 0),
-            ("ask", 0, 0),
-            ("close", 0, 0),
-        ],
-    );
+    tally.assert_seen(20, &each_call(0));
 }

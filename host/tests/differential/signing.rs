@@ -1,4 +1,5 @@
-//! The two digest questions, the parts of a checked image, and the trust reading.
+//! The two digest questions with the places of the signatures, the parts of a checked image, and
+//! the trust reading.
 
 use crate::archive::image as archive;
 use crate::common::random::Random;
@@ -30,10 +31,14 @@ fn digests_to_sign() {
 
         let answer = archive::vendor_digest(bytes);
         assert_eq!(answer, model::vendor_digest(bytes));
+        let signature = archive::vendor_signature(bytes);
+        assert_eq!(signature, model::vendor_signature(bytes));
         vendor_tally.count(told(&answer));
 
         let answer = archive::firmware_digest(bytes);
         assert_eq!(answer, model::firmware_digest(bytes));
+        let signature = archive::firmware_signature(bytes);
+        assert_eq!(signature, model::firmware_signature(bytes));
         firmware_tally.count(told(&answer));
     }
     let vendor = [(0, 0), (1, 1), (2, 1), (3, 1), (4, 1), (5, 1), (6, 1)];
@@ -57,6 +62,26 @@ fn digests_need_no_code() {
             model::firmware_digest(&bytes)
         );
         assert!(archive::firmware_digest(headers).is_ok());
+    }
+}
+
+/// What the places hold is what the writers were given.
+#[test]
+fn signatures_that_were_written() {
+    let mut random = Random::new(307);
+    for _ in 0..cases(5_000) {
+        let draft = Draft::small(Form::File, &mut random);
+        let bytes = draft.bytes();
+        let found = archive::vendor_signature(&bytes);
+        assert_eq!(bytes[found.sigmask], [draft.fields.sigmask as u8]);
+        assert_eq!(bytes[found.sig], draft.fields.sig);
+        assert_eq!((found.keys, found.m, found.n), (0..0, 0, 0));
+
+        let found = archive::firmware_signature(&bytes);
+        assert_eq!(bytes[found.sigmask], draft.firmware[959..960]);
+        assert_eq!(bytes[found.sig], draft.firmware[960..]);
+        assert_eq!(bytes[found.keys], draft.fields.keys);
+        assert_eq!((found.m, found.n), (draft.fields.m, draft.fields.n));
     }
 }
 

@@ -1,6 +1,7 @@
 //! How much is tried, and how often each kind of answer came. A test that never sees an answer
 //! shows nothing about it, so the counts are asserted.
 
+use crate::both::Way;
 use crate::model::image::{Image, Refusal};
 use std::collections::BTreeMap;
 use std::fmt::Debug;
@@ -101,50 +102,90 @@ pub fn step(answer: &Result<Image, Refusal>, length: usize) -> &'static str {
 /// What an installer's call answered: the call, the number and the part.
 pub type Outcome = (&'static str, u32, u32);
 
-pub fn outcome<T>(call: &'static str, answer: &Result<T, u32>) -> Outcome {
-    (call, *answer.as_ref().err().unwrap_or(&0), 0)
-}
+/// Each call in both forms.
+pub const CALLS: [&str; 8] = [
+    "erase",
+    "plan_erase",
+    "fill",
+    "plan_fill",
+    "ask",
+    "close",
+    "plan_close",
+    "confirm",
+];
 
-pub fn outcome_of_close(answer: &Result<(), Refusal>) -> Outcome {
-    match answer {
-        Ok(()) => ("close", 0, 0),
-        Err(refusal) => ("close", refusal.number, refusal.part),
+fn name(call: &'static str, way: Way) -> &'static str {
+    match (way, call) {
+        (Way::Plan, "erase") => "plan_erase",
+        (Way::Plan, "fill") => "plan_fill",
+        (Way::Plan, "close") => "plan_close",
+        _ => call,
     }
 }
 
-/// The outcomes that need no slot written behind the session's back.
-pub const OUTCOMES: [Outcome; 30] = [
-    ("erase", 0, 0),
-    ("erase", 19, 0),
-    ("fill", 0, 0),
-    ("fill", 19, 0),
-    ("ask", 0, 0),
-    ("ask", 19, 0),
-    ("close", 0, 0),
-    ("close", 19, 0),
-    ("close", 1, 1),
-    ("close", 16, 0),
-    ("close", 3, 1),
-    ("close", 2, 1),
-    ("close", 4, 1),
-    ("close", 5, 1),
-    ("close", 6, 1),
-    ("close", 7, 1),
-    ("close", 8, 1),
-    ("close", 9, 1),
-    ("close", 2, 2),
-    ("close", 10, 2),
-    ("close", 11, 2),
-    ("close", 12, 2),
-    ("close", 6, 2),
-    ("close", 7, 2),
-    ("close", 8, 2),
-    ("close", 9, 2),
-    ("close", 2, 3),
-    ("close", 13, 3),
-    ("close", 14, 3),
-    ("close", 15, 3),
+pub fn outcome<T>(call: &'static str, way: Way, answer: &Result<T, u32>) -> Outcome {
+    (name(call, way), *answer.as_ref().err().unwrap_or(&0), 0)
+}
+
+pub fn outcome_of_close(way: Way, answer: &Result<(), Refusal>) -> Outcome {
+    let call = name("close", way);
+    match answer {
+        Ok(()) => (call, 0, 0),
+        Err(refusal) => (call, refusal.number, refusal.part),
+    }
+}
+
+/// Each call answered with this number.
+pub fn each_call(number: u32) -> [Outcome; 8] {
+    CALLS.map(|call| (call, number, 0))
+}
+
+/// The refusals of the check that a close can pass on: number and part.
+const OF_CHECK: [(u32, u32); 22] = [
+    (1, 1),
+    (16, 0),
+    (3, 1),
+    (2, 1),
+    (4, 1),
+    (5, 1),
+    (6, 1),
+    (7, 1),
+    (8, 1),
+    (9, 1),
+    (2, 2),
+    (10, 2),
+    (11, 2),
+    (12, 2),
+    (6, 2),
+    (7, 2),
+    (8, 2),
+    (9, 2),
+    (2, 3),
+    (13, 3),
+    (14, 3),
+    (15, 3),
 ];
 
+/// The outcomes that need no slot written behind the session's back.
+pub fn outcomes() -> Vec<Outcome> {
+    let closes = ["close", "plan_close"];
+    let of_check = closes.map(|call| OF_CHECK.map(|(number, part)| (call, number, part)));
+    [
+        &each_call(0)[..],
+        &each_call(19),
+        &of_check[0],
+        &of_check[1],
+    ]
+    .concat()
+}
+
 /// Those that a word written there leads to.
-pub const NOT_ERASED: [Outcome; 2] = [("fill", 23, 0), ("close", 23, 0)];
+pub const NOT_ERASED: [Outcome; 4] = [
+    ("fill", 23, 0),
+    ("plan_fill", 23, 0),
+    ("close", 23, 0),
+    ("plan_close", 23, 0),
+];
+
+/// The one that a first word leads to that does not stand there.
+pub const NOT_LANDED: [Outcome; 1] = [("confirm", 27, 0)];

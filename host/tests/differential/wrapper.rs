@@ -2,30 +2,46 @@
 //! nothing but their types.
 
 use crate::common::random::Random;
-use crate::draft::{slot_length, Draft};
+use crate::draft::Draft;
 use crate::faults::faulty_draft;
-use crate::model::image::{self as model, Form, Inputs};
+use crate::model::image::{self as model, Form, Inputs, YES};
 use crate::model::layout::Firmware;
 use crate::model::writer;
 use crate::tally::{cases, step, Tally, ACCEPTED, STEPS};
-use thimmorel::{FirmwareHeader, Image, Refusal, Session, Trust, VendorHeader, Version};
+use thimmorel::{
+    FirmwareHeader, Image, Part, Reason, Refusal, Signature, Trust, VendorHeader, Version,
+};
 
-fn inputs(inputs: &Inputs) -> thimmorel::Inputs {
+pub fn inputs(inputs: &Inputs) -> thimmorel::Inputs {
     thimmorel::Inputs {
         time: inputs.time,
         m: inputs.m,
         n: inputs.n,
-        vendor: inputs.vendor,
-        firmware: inputs.firmware,
+        vendor_verdict: inputs.vendor == YES,
+        firmware_verdict: inputs.firmware == YES,
     }
 }
 
-fn refusal(refusal: model::Refusal) -> Refusal {
+pub fn refusal(refusal: model::Refusal) -> Refusal {
     Refusal {
-        number: refusal.number,
-        part: refusal.part,
-        chunk: refusal.chunk,
+        reason: Reason::from_number(refusal.number).expect("a refusal is not 0"),
+        part: match refusal.part {
+            0 => None,
+            1 => Some(Part::VendorHeader),
+            2 => Some(Part::FirmwareHeader),
+            _ => Some(Part::Code),
+        },
+        chunk: Some(refusal.chunk).filter(|chunk| *chunk != 0),
     }
+}
+
+/// A refusal that is a number alone.
+pub fn alone(number: u32) -> Refusal {
+    refusal(model::Refusal {
+        number,
+        part: 0,
+        chunk: 0,
+    })
 }
 
 fn version([major, minor, patch, build]: [u8; 4]) -> Version {
@@ -41,13 +57,26 @@ fn version([major, minor, patch, build]: [u8; 4]) -> Version {
 fn image<'a>(bytes: &'a [u8], told: &model::Image) -> Image<'a> {
     let parts = model::parts(bytes, &Ok(*told));
     Image {
-        v: told.v as usize,
+        vendor_length: told.v as usize,
         version: version(told.version),
-        fix: version(told.fix),
+        fix_version: version(told.fix),
         string: &bytes[parts.string],
         picture: &bytes[parts.picture],
         code: &bytes[parts.code],
     }
+}
+
+/// Asserts that a signature is the one at the places that the model tells.
+pub fn assert_signature(found: Option<Signature>, bytes: &[u8], places: &model::Signature) {
+    if places.sig.is_empty() {
+        assert_eq!(found, None);
+        return;
+    }
+    let found = found.expect("a signature");
+    assert_eq!([found.sigmask], bytes[places.sigmask.clone()]);
+    assert_eq!(found.sig[..], bytes[places.sig.clone()]);
+    assert_eq!(found.keys.as_flattened(), &bytes[places.keys.clone()]);
+    assert_eq!((found.m, found.n), (places.m, places.n));
 }
 
 #[test]
@@ -72,7 +101,7 @@ fn checks() {
 }
 
 #[test]
-fn questions_and_trust() {
+fn questions_signatures_and_trust() {
     let mut random = Random::new(802);
     for _ in 0..cases(20_000) {
         let draft = faulty_draft(1, Form::File, &mut random);
@@ -82,23 +111,20 @@ fn questions_and_trust() {
         assert_eq!(thimmorel::vendor_digest(bytes), vendor);
         assert_eq!(thimmorel::firmware_digest(bytes), firmware);
 
+        let found = thimmorel::vendor_signature(bytes);
+        assert_signature(found, bytes, &model::vendor_signature(bytes));
+        let found = thimmorel::firmware_signature(bytes);
+        assert_signature(found, bytes, &model::firmware_signature(bytes));
+
         let trust = model::trust_of(bytes);
         let expected = Trust {
             seconds: trust.seconds,
-            red: trust.red,
-            click: trust.click,
-            string: trust.string,
-            secret: trust.secret,
+            red_background: trust.red,
+            click_needed: trust.click,
+            string_shown: trust.string,
+            secret_allowed: trust.secret,
         };
         assert_eq!(Trust::read(bytes), expected);
-    }
-}
-
-fn alone(number: u32) -> Refusal {
-    Refusal {
-        number,
-        part: 0,
-        chunk: 0,
     }
 }
 
@@ -108,38 +134,45 @@ fn writers() {
     let mut random = Random::new(803);
     let mut tally = Tally::new("headers written by the wrapper");
     for _ in 0..cases(20_000) {
-        let draft = Draft::small(Form::File, &mut random);
+        let mut draft = Draft::small(Form::File, &mut random);
+        if random.one_in(8) {
+            draft.fields.m = random.pick(&[0, 9]);
+        }
         let length = random.pick(&[draft.v(), draft.v() + 9, draft.v() - 1]);
         let (mut out, mut expected) = (vec![0; length], vec![0; length]);
-        let answer = thimmorel::write_vendor(&vendor_header(&draft.fields), &mut out);
+        let keys = keys(&draft.fields.keys);
+        let fields = vendor_header(&draft.fields, &keys);
+        let answer = thimmorel::write_vendor(&fields, &mut out);
         let by_model = writer::write_vendor(&draft.fields, &mut expected);
         assert_eq!(answer, by_model.map_err(alone));
         assert_eq!(out, expected);
-        tally.count(answer.is_ok());
+        tally.count(by_model.err());
 
         let mut out = [0; 1_024];
         let fields = firmware_header(&draft);
-        assert_eq!(
-            thimmorel::write_firmware(&fields, &draft.code, &mut out),
-            Ok(1_024)
-        );
+        let answer = thimmorel::write_firmware(&fields, &draft.code, &mut out);
+        assert_eq!(answer, Ok(1_024));
         assert_eq!(out[..], draft.firmware);
     }
-    tally.assert_seen(1_000, &[true, false]);
+    tally.assert_exactly(1_000, &[None, Some(4), Some(21)]);
 }
 
-fn vendor_header(fields: &writer::VendorFields) -> VendorHeader<'_> {
+fn keys(bytes: &[u8]) -> Vec<[u8; 32]> {
+    let keys = bytes.chunks(32);
+    keys.map(|key| key.try_into().expect("32 bytes")).collect()
+}
+
+fn vendor_header<'a>(fields: &'a writer::VendorFields, keys: &'a [[u8; 32]]) -> VendorHeader<'a> {
     VendorHeader {
         expiry: fields.expiry,
-        major: fields.major,
-        minor: fields.minor,
-        m: fields.m,
-        n: fields.n,
-        vtrust: fields.vtrust,
-        sigmask: fields.sigmask,
-        keys: &fields.keys,
+        major: fields.major as u8,
+        minor: fields.minor as u8,
+        m: fields.m as u8,
+        keys,
+        vtrust: fields.vtrust as u16,
         string: &fields.string,
         picture: &fields.picture,
+        sigmask: fields.sigmask as u8,
         sig: fields.sig,
     }
 }
@@ -147,93 +180,37 @@ fn vendor_header(fields: &writer::VendorFields) -> VendorHeader<'_> {
 fn firmware_header(draft: &Draft) -> FirmwareHeader {
     let header = Firmware(&draft.firmware);
     FirmwareHeader {
-        v: draft.v() as u32,
+        vendor_length: draft.v() as u32,
         expiry: header.expiry(),
         version: version(header.version()),
-        fix: version(header.fix()),
+        fix_version: version(header.fix()),
         sigmask: header.sigmask(),
         sig: header.0[960..].try_into().expect("64 bytes"),
     }
 }
 
-/// An install by the wrapper, with each call also made out of turn, and the session stored and
-/// brought back before each fill.
+/// No keys, and as many as do not fit a byte.
 #[test]
-fn sessions() {
-    let mut random = Random::new(804);
-    for _ in 0..cases(300) {
-        let draft = Draft::small(Form::File, &mut random);
-        let (file, inputs) = (draft.file(), inputs(&draft.inputs));
-        let length = slot_length(file.len(), &mut random);
-        let mut slot = random.bytes(length);
-        assert_eq!(Session::begin(&slot, 2), Err(alone(18)));
-        let mut session = Session::begin(&slot, file.len()).expect("good lengths");
-        assert_eq!(session.fill(&file, &mut slot), Err(alone(19)));
-        for _ in 0..slot.len() / 4_096 {
-            assert_eq!(session.erase(&mut slot), Ok(()));
-        }
-        assert_eq!(session.erase(&mut slot), Err(alone(19)));
-        assert_eq!(session.ask(&slot), Err(alone(19)));
-
-        let mut given = 0;
-        while given < file.len() {
-            session = Session::from_words(*session.words());
-            given += session.fill(&file[given..], &mut slot).expect("its turn");
-        }
-        let digests = session.ask(&slot).expect("its turn");
-        assert_eq!(digests.vendor, thimmorel::vendor_digest(&file));
-        assert_eq!(digests.firmware, thimmorel::firmware_digest(&file));
-
-        assert_eq!(session.close(&mut slot, inputs), Ok(()));
-        assert_eq!(
-            session.operations() as usize,
-            slot.len() / 4_096 + file.len() / 4
-        );
-        assert_eq!(slot[..file.len()], file);
-        assert_eq!(session.close(&mut slot, inputs), Err(alone(19)));
+fn numbers_of_keys() {
+    let mut out = [0; 65_536];
+    for n in [0, 9, 255, 256, 257, 264] {
+        let keys = vec![[7; 32]; n];
+        let fields = VendorHeader {
+            m: 1,
+            keys: &keys,
+            ..VendorHeader::default()
+        };
+        assert_eq!(thimmorel::write_vendor(&fields, &mut out), Err(alone(4)));
     }
-}
-
-/// A question that is refused is told as it is, and a close that is refused has part and chunk.
-#[test]
-fn sessions_with_faulty_files() {
-    let mut random = Random::new(805);
-    let mut tally = Tally::new("faulty files by the wrapper");
-    for _ in 0..cases(1_000) {
-        let draft = faulty_draft(1, Form::File, &mut random);
-        let file = draft.file();
-        let length = slot_length(file.len(), &mut random);
-        let mut slot = random.bytes(length);
-        let mut session = Session::begin(&slot, file.len()).expect("good lengths");
-        while session.erase(&mut slot).is_ok() {}
-        let mut given = 0;
-        while given < file.len() {
-            given += session.fill(&file[given..], &mut slot).expect("its turn");
-        }
-        let digests = session.ask(&slot).expect("its turn");
-        assert_eq!(digests.vendor, model::vendor_digest(&file).map_err(refusal));
-        assert_eq!(
-            digests.firmware,
-            model::firmware_digest(&file).map_err(refusal)
-        );
-
-        let by_model = model::check(Form::File, &file, &draft.inputs);
-        tally.count(step(&by_model, file.len()));
-        let answer = session.close(&mut slot, inputs(&draft.inputs));
-        assert_eq!(answer, by_model.map(|_| ()).map_err(refusal));
-    }
-    tally.assert_seen(
-        10,
-        &["S1", "S2", "S4", "S13", "S20", "S22", "S23/14", ACCEPTED],
-    );
+    assert_eq!(out, [0; 65_536]);
 }
 
 #[test]
 fn how_a_refusal_reads() {
     let refusal = Refusal {
-        number: 14,
-        part: 3,
-        chunk: 2,
+        reason: Reason::ChunkHash,
+        part: Some(Part::Code),
+        chunk: Some(2),
     };
     assert_eq!(
         refusal.to_string(),
@@ -243,6 +220,49 @@ fn how_a_refusal_reads() {
     assert_eq!(
         alone(21).to_string(),
         "refused with 21: the output is shorter than the header"
+    );
+    assert_eq!(
+        alone(99).to_string(),
+        "refused with 99: no call of this version gives this number"
+    );
+}
+
+/// `Debug` tells how many bytes there are, and not all of them.
+#[test]
+fn how_an_image_is_shown() {
+    let long = vec![0; 2_000_000];
+    let image = Image {
+        vendor_length: 512,
+        version: version([2, 0, 0, 1]),
+        fix_version: version([1, 0, 0, 0]),
+        string: b"Ann\xff",
+        picture: &long[..300],
+        code: &long,
+    };
+    let shown = format!("{image:?}");
+    assert!(shown.contains(r#"string: b"Ann\xff", picture: 300 bytes, code: 2000000 bytes"#));
+    assert!(shown.len() < 250, "{shown}");
+
+    let header = VendorHeader {
+        keys: &[[7; 32]; 8],
+        string: &long[..255],
+        picture: &long,
+        ..VendorHeader::default()
+    };
+    let shown = format!("{header:?}");
+    assert!(shown.contains("keys: 8 keys"), "{shown}");
+    assert!(shown.contains("string: 255 bytes, picture: 2000000 bytes"));
+
+    let signature = Signature {
+        sigmask: 5,
+        sig: &[1; 64],
+        keys: &[[7; 32]; 8],
+        m: 2,
+        n: 8,
+    };
+    assert_eq!(
+        format!("{signature:?}"),
+        "Signature { sigmask: 0x05, sig: 64 bytes, keys: 8 keys, m: 2, n: 8 }"
     );
 }
 
@@ -255,6 +275,7 @@ fn later_versions_are_greater() {
         [2, 0, 1, 0],
         [2, 1, 0, 0],
     ];
-    assert!(ordered.map(version).is_sorted());
+    let ordered = ordered.map(version);
+    assert!(ordered.windows(2).all(|pair| pair[0] < pair[1]));
     assert_eq!(version([2, 1, 0, 7]).to_string(), "2.1.0.7");
 }

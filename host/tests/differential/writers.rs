@@ -7,7 +7,7 @@ use crate::common::random::Random;
 use crate::draft::Draft;
 use crate::model::image::{parts, Form};
 use crate::model::layout::Vendor;
-use crate::model::writer::VendorFields;
+use crate::model::writer::{FirmwareFields, VendorFields};
 use crate::tally::{cases, Tally};
 use crate::written::{
     compare_firmware, compare_vendor, firmware_fields, firmware_of, vendor_fields,
@@ -26,7 +26,7 @@ fn vendor_headers() {
         let fields = vendor_fields(&mut random);
         tally.count(number(compare_vendor(&fields, &mut random)));
     }
-    tally.assert_exactly(500, &[0, 3, 4, 20, 21]);
+    tally.assert_exactly(500, &[0, 3, 4, 20, 21, 28]);
 }
 
 #[test]
@@ -40,7 +40,40 @@ fn firmware_headers() {
         let fields = firmware_fields(&mut random);
         tally.count(number(compare_firmware(&fields, &code, &mut random)));
     }
-    tally.assert_exactly(1_000, &[0, 3, 12, 21]);
+    tally.assert_exactly(1_000, &[0, 3, 12, 21, 28]);
+}
+
+/// Each number alone at the limit of its field and above it, with other faults behind it: 28 comes
+/// first.
+#[test]
+fn numbers_beyond_their_fields() {
+    type Number = fn(&mut VendorFields) -> &mut u32;
+    let numbers: [(Number, u32); 4] = [
+        (|fields| &mut fields.major, 255),
+        (|fields| &mut fields.minor, 255),
+        (|fields| &mut fields.sigmask, 255),
+        (|fields| &mut fields.vtrust, 65_535),
+    ];
+    let mut random = Random::new(406);
+    for (number, limit) in numbers {
+        for _ in 0..cases(2_000) {
+            let mut fields = Draft::small(Form::File, &mut random).fields;
+            *number(&mut fields) = limit;
+            assert_ne!(compare_vendor(&fields, &mut random), Err(28));
+            let mut fields = vendor_fields(&mut random);
+            let above = limit + 1 + random.up_to((u32::MAX - limit - 1) as usize) as u32;
+            *number(&mut fields) = random.pick(&[limit + 1, u32::MAX, above, 1 << 31]);
+            assert_eq!(compare_vendor(&fields, &mut random), Err(28));
+        }
+    }
+    for sigmask in [255, 256, 257, 1 << 31, u32::MAX] {
+        let fields = FirmwareFields {
+            sigmask,
+            ..firmware_fields(&mut random)
+        };
+        let answer = compare_firmware(&fields, &[], &mut random);
+        assert_eq!(answer == Err(28), sigmask > 255);
+    }
 }
 
 /// Code around the ends of chunks, and around the largest length.
@@ -59,7 +92,7 @@ fn firmware_headers_of_much_code() {
             tally.count(number(compare_firmware(&fields, code, &mut random)));
         }
     }
-    tally.assert_exactly(5, &[0, 3, 12, 21]);
+    tally.assert_seen(5, &[0, 3, 12, 21]);
 }
 
 /// A well-formed image that the archive writes passes the archive's check.
@@ -86,13 +119,13 @@ fn vendor_of(bytes: &[u8]) -> VendorFields {
     let v = header.hdrlen();
     VendorFields {
         expiry: header.expiry(),
-        major: bytes[12],
-        minor: bytes[13],
-        m: bytes[14],
-        n: bytes[15],
-        vtrust: u16::from_le_bytes([bytes[16], bytes[17]]),
-        sigmask: header.sigmask(),
-        keys: bytes[32..32 + 32 * usize::from(bytes[15])].to_vec(),
+        major: bytes[12].into(),
+        minor: bytes[13].into(),
+        m: header.vsig_m(),
+        n: header.vsig_n(),
+        vtrust: u16::from_le_bytes([bytes[16], bytes[17]]).into(),
+        sigmask: header.sigmask().into(),
+        keys: bytes[header.keys()].to_vec(),
         string: bytes[header.string()].to_vec(),
         picture: bytes[header.picture()].to_vec(),
         sig: bytes[v - 64..v].try_into().expect("64 bytes"),

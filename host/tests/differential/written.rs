@@ -76,6 +76,15 @@ pub fn picture_length(keys: usize, string: usize, random: &mut Random) -> usize 
     }
 }
 
+/// A number of at most `limit`, and now and then a word above it.
+pub fn field(limit: u32, random: &mut Random) -> u32 {
+    let any = random.word();
+    match random.one_in(64) {
+        true => random.pick(&[limit + 1, limit + 2, u32::MAX, any]),
+        false => any & limit,
+    }
+}
+
 /// The keys and the string are sometimes off by one.
 pub fn vendor_fields(random: &mut Random) -> VendorFields {
     let (m, n) = random.pick(&[
@@ -88,20 +97,23 @@ pub fn vendor_fields(random: &mut Random) -> VendorFields {
         (3, 2),
         (1, 9),
         (0, 0),
+        (257, 257),
+        (1, 256),
+        (1, u32::MAX),
     ]);
-    let keys = 32 * usize::from(n);
+    let keys = 32 * n.min(300) as usize;
     let keys = random.pick(&[keys, keys, keys, keys, keys + 1, keys.saturating_sub(1), 0]);
     let any = random.up_to(255);
     let string = random.pick(&[0, 1, 2, 3, 4, 255, any, any, 256, 300]);
     let picture = picture_length(keys, string, random);
     VendorFields {
         expiry: random.word(),
-        major: random.byte(),
-        minor: random.byte(),
+        major: field(255, random),
+        minor: field(255, random),
         m,
         n,
-        vtrust: random.word() as u16,
-        sigmask: random.byte(),
+        vtrust: field(65_535, random),
+        sigmask: field(255, random),
         keys: random.bytes(keys),
         string: random.bytes(string),
         picture: random.bytes(picture),
@@ -122,7 +134,7 @@ pub fn firmware_fields(random: &mut Random) -> FirmwareFields {
         expiry: random.word(),
         version: random.word().to_le_bytes(),
         fix: random.word().to_le_bytes(),
-        sigmask: random.byte(),
+        sigmask: field(255, random),
         sig: sig(random),
     }
 }
@@ -135,7 +147,7 @@ pub fn firmware_of(bytes: &[u8], v: usize) -> FirmwareFields {
         expiry: header.expiry(),
         version: header.version(),
         fix: header.fix(),
-        sigmask: header.sigmask(),
+        sigmask: header.sigmask().into(),
         sig: header.0[960..1_024].try_into().expect("64 bytes"),
     }
 }

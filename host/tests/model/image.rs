@@ -1,6 +1,6 @@
 //! The check of a file and of a slot with the parts handed back (specification, 6), the two digest
-//! questions (5) and the vendor trust reading (7). Each step is judged only where all before it
-//! hold.
+//! questions (5) with what else a chip needs, and the vendor trust reading (7). Each step is judged
+//! only where all before it hold.
 
 use super::blake2s::blake2s;
 use super::layout::{
@@ -16,15 +16,18 @@ pub struct Refusal {
     pub chunk: u32,
 }
 
+/// A verdict that is yes. Any other word is no.
+pub const YES: u32 = 1;
+
 /// What the check takes besides the bytes: the time, a key policy of `m` of `n` for the vendor
 /// header, and the verdict on each header's signature.
-#[derive(Clone, Copy, Debug)]
+#[derive(Clone, Copy, Debug, PartialEq, Eq)]
 pub struct Inputs {
     pub time: u32,
     pub m: u32,
     pub n: u32,
-    pub vendor: bool,
-    pub firmware: bool,
+    pub vendor: u32,
+    pub firmware: u32,
 }
 
 /// What an acceptance tells.
@@ -68,12 +71,12 @@ pub fn policy_is_possible(m: u32, n: u32) -> bool {
 
 /// S4, and the firmware writer's 3.
 pub fn vendor_length_is_possible(v: usize) -> bool {
-    v.is_multiple_of(512) && (512..=65_536).contains(&v)
+    v % 512 == 0 && (512..=65_536).contains(&v)
 }
 
 /// S16, and the firmware writer's 12.
 pub fn code_length_is_possible(codelen: usize, v: usize) -> bool {
-    codelen != 0 && codelen.is_multiple_of(4) && codelen <= LARGEST - FIRMWARE_HEADER - v
+    codelen != 0 && codelen % 4 == 0 && codelen <= LARGEST - FIRMWARE_HEADER - v
 }
 
 /// S9 and S18: a header is good up to and with its expiry, and 0 is never.
@@ -114,7 +117,7 @@ fn vendor_policy(bytes: &[u8], inputs: &Inputs) -> Step {
     let header = Vendor(bytes);
     refuse_if(expired(header.expiry(), inputs.time), 7, VENDOR)?; // S9
     refuse_if(mask_fails(header.sigmask(), inputs.m, inputs.n), 8, VENDOR)?; // S10
-    refuse_if(!inputs.vendor, 9, VENDOR) // S11
+    refuse_if(inputs.vendor != YES, 9, VENDOR) // S11
 }
 
 /// S12 to S17.
@@ -136,7 +139,7 @@ fn firmware_policy(bytes: &[u8], inputs: &Inputs) -> Step {
     refuse_if(expired(header.expiry(), inputs.time), 7, FIRMWARE)?; // S18
     let mask_fails = mask_fails(header.sigmask(), vendor.vsig_m(), vendor.vsig_n());
     refuse_if(mask_fails, 8, FIRMWARE)?; // S19
-    refuse_if(!inputs.firmware, 9, FIRMWARE) // S20
+    refuse_if(inputs.firmware != YES, 9, FIRMWARE) // S20
 }
 
 /// Where the code stands.
@@ -239,6 +242,48 @@ pub fn firmware_digest(bytes: &[u8]) -> Result<[u8; 32], Refusal> {
     firmware_shape(bytes)?;
     let v = Vendor(bytes).hdrlen();
     Ok(digest_to_sign(&bytes[v..v + FIRMWARE_HEADER]))
+}
+
+/// What a chip needs beside a digest to be signed. All is empty where the digest is refused.
+#[derive(Clone, Debug, Default, PartialEq, Eq)]
+pub struct Signature {
+    pub sigmask: Range<usize>,
+    pub sig: Range<usize>,
+    /// The vendor's keys. Those of the vendor header itself are the caller's own, and so are their
+    /// m and n.
+    pub keys: Range<usize>,
+    pub m: u32,
+    pub n: u32,
+}
+
+/// The sigmask comes before the sig.
+fn sealed(seal: Range<usize>) -> Signature {
+    Signature {
+        sigmask: seal.start..seal.start + 1,
+        sig: seal.start + 1..seal.end,
+        ..Signature::default()
+    }
+}
+
+pub fn vendor_signature(bytes: &[u8]) -> Signature {
+    match vendor_digest(bytes) {
+        Err(_) => Signature::default(),
+        Ok(_) => sealed(Vendor(bytes).seal()),
+    }
+}
+
+pub fn firmware_signature(bytes: &[u8]) -> Signature {
+    if firmware_digest(bytes).is_err() {
+        return Signature::default();
+    }
+    let vendor = Vendor(bytes);
+    let end = vendor.hdrlen() + FIRMWARE_HEADER;
+    Signature {
+        keys: vendor.keys(),
+        m: vendor.vsig_m(),
+        n: vendor.vsig_n(),
+        ..sealed(end - SEAL..end)
+    }
 }
 
 /// The vendor trust reading: what is active, and how many seconds to wait.

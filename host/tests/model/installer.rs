@@ -1,7 +1,11 @@
-//! The session record and the installer's calls (specification, 9 and 10). Each call makes at most
-//! one operation on the slot: one page erased, or one word stored over an erased one.
+//! The session record and the installer's calls (specification, 9 and 10). The calls that hand
+//! their operation back are modelled (10.5), and those that make it are these and the operation
+//! made.
 
-use super::image::{check, firmware_digest, vendor_digest, Form, Inputs, Refusal};
+use super::image::{
+    check, firmware_digest, firmware_signature, vendor_digest, vendor_signature, Form, Inputs,
+    Refusal, Signature,
+};
 
 const PAGE: usize = 4_096;
 const WORD: usize = 4;
@@ -9,14 +13,16 @@ const ERASED: [u8; WORD] = [255; WORD];
 
 /// The numbers that the calls give.
 const FILE_LENGTH: u32 = 18;
-const WRONG_PHASE: u32 = 19;
+const TURN: u32 = 19;
 const SLOT_LENGTH: u32 = 22;
 const NOT_ERASED: u32 = 23;
+const NOT_LANDED: u32 = 27;
 
-pub const OVER: u32 = 0;
-pub const OPEN: u32 = 1;
+const OVER: u32 = 0;
+const OPEN: u32 = 1;
+const ACCEPTED: u32 = 2;
 
-/// A session. A phase that is neither `OPEN` nor `OVER` is a wrong phase.
+/// A session. Any other number than these three is no phase.
 #[derive(Clone, Debug, PartialEq, Eq)]
 pub struct Record {
     pub phase: u32,
@@ -25,7 +31,7 @@ pub struct Record {
     pub pages_erased: usize,
     pub bytes_taken: usize,
     pub operations: usize,
-    /// Word 0 of the file, kept here until Close. It counts once four bytes are taken.
+    /// Word 0 of the file, kept here until it is stored. It counts once four bytes are taken.
     pub first: [u8; WORD],
     /// The word in progress: its first bytes, as many as `bytes_taken` has beyond full words.
     pub word: [u8; WORD],
@@ -43,12 +49,33 @@ const FINISHED: Record = Record {
     word: [0; WORD],
 };
 
+/// An operation of the flash, with the offset of its page or word.
+#[derive(Clone, Copy, Debug, PartialEq, Eq)]
+pub enum Operation {
+    Nothing,
+    ErasePage(usize),
+    StoreWord(usize, [u8; WORD]),
+}
+
+impl Operation {
+    pub fn make(self, slot: &mut [u8]) {
+        match self {
+            Operation::Nothing => (),
+            Operation::ErasePage(at) => slot[at..at + PAGE].fill(255),
+            Operation::StoreWord(at, word) => {
+                assert_eq!(slot[at..at + WORD], ERASED, "a store over a written word");
+                slot[at..at + WORD].copy_from_slice(&word);
+            }
+        }
+    }
+}
+
 fn slot_length_is_wrong(length: usize) -> bool {
-    !length.is_multiple_of(PAGE) || !(PAGE..=2_097_152).contains(&length)
+    length % PAGE != 0 || !(PAGE..=2_097_152).contains(&length)
 }
 
 fn file_length_is_wrong(length: usize, slot_length: usize) -> bool {
-    !length.is_multiple_of(WORD) || length < 1_540 || length > slot_length
+    length % WORD != 0 || length < 1_540 || length > slot_length
 }
 
 /// Begin: its refusal, or none, and the record.
@@ -68,14 +95,29 @@ pub fn begin(slot_length: usize, file_length: usize) -> (Option<u32>, Record) {
     (None, record)
 }
 
+fn refuse_unless(holds: bool, number: u32) -> Result<(), u32> {
+    match holds {
+        true => Ok(()),
+        false => Err(number),
+    }
+}
+
+fn is_erased(slot: &[u8], at: usize) -> bool {
+    slot[at..at + WORD] == ERASED
+}
+
 impl Record {
     fn pages(&self) -> usize {
         self.slot_length / PAGE
     }
 
-    /// Words stored so far: all that are complete, without word 0, which Close stores.
+    /// Words stored so far: all that are complete, and word 0 only once the file is accepted.
     fn words_stored(&self) -> usize {
-        (self.bytes_taken / WORD).saturating_sub(1)
+        let complete = self.bytes_taken / WORD;
+        match self.phase {
+            ACCEPTED => complete,
+            _ => complete.saturating_sub(1),
+        }
     }
 
     fn all_erased(&self) -> bool {
@@ -86,27 +128,25 @@ impl Record {
         self.all_erased() && self.bytes_taken == self.file_length
     }
 
-    /// Whether its numbers agree: the list under 19, in its order.
+    /// Whether its numbers agree (10.2).
     fn is_consistent(&self) -> bool {
-        self.pages_erased <= self.pages()
+        !slot_length_is_wrong(self.slot_length)
+            && !file_length_is_wrong(self.file_length, self.slot_length)
+            && self.pages_erased <= self.pages()
             && (self.bytes_taken == 0 || self.all_erased())
             && self.bytes_taken <= self.file_length
-            && !slot_length_is_wrong(self.slot_length)
-            && !file_length_is_wrong(self.file_length, self.slot_length)
             && self.operations == self.pages_erased + self.words_stored()
+            && (self.full() || self.phase != ACCEPTED)
     }
 
-    /// 19, unless the session is open, the slot is as long as at begin, the record is consistent
-    /// and `phase_is_right` says that the session is ready for the call.
-    fn expect(&self, slot: &[u8], phase_is_right: fn(&Record) -> bool) -> Result<(), u32> {
-        let good = self.phase == OPEN
+    /// 19, unless the session is in this phase, the slot is as long as at begin, the record is
+    /// consistent and `is_ready` says that it is the call's turn.
+    fn expect(&self, phase: u32, slot: &[u8], is_ready: fn(&Record) -> bool) -> Result<(), u32> {
+        let good = self.phase == phase
             && slot.len() == self.slot_length
             && self.is_consistent()
-            && phase_is_right(self);
-        match good {
-            true => Ok(()),
-            false => Err(WRONG_PHASE),
-        }
+            && is_ready(self);
+        refuse_unless(good, TURN)
     }
 
     /// The file as Ask and Close see it: word 0 from the record, the rest from the slot.
@@ -117,25 +157,27 @@ impl Record {
     }
 }
 
-fn expect_erased(slot: &[u8], at: usize) -> Result<(), u32> {
-    match slot[at..at + WORD] == ERASED {
-        true => Ok(()),
-        false => Err(NOT_ERASED),
-    }
-}
-
 /// Erase: the next page, from page 0 up.
-pub fn erase(record: &mut Record, slot: &mut [u8]) -> Result<(), u32> {
-    record.expect(slot, |record| !record.all_erased())?;
-    slot[record.pages_erased * PAGE..][..PAGE].fill(255);
+pub fn plan_erase(record: &mut Record, slot: &[u8]) -> Result<Operation, u32> {
+    record.expect(OPEN, slot, |record| !record.all_erased())?;
+    let operation = Operation::ErasePage(record.pages_erased * PAGE);
     record.pages_erased += 1;
     record.operations += 1;
+    Ok(operation)
+}
+
+pub fn erase(record: &mut Record, slot: &mut [u8]) -> Result<(), u32> {
+    plan_erase(record, slot)?.make(slot);
     Ok(())
 }
 
-/// Fill: how many bytes of the piece were taken.
-pub fn fill(record: &mut Record, piece: &[u8], slot: &mut [u8]) -> Result<usize, u32> {
-    record.expect(slot, Record::all_erased)?;
+/// Fill: how many bytes of the piece were taken, and the operation.
+pub fn plan_fill(
+    record: &mut Record,
+    piece: &[u8],
+    slot: &[u8],
+) -> Result<(usize, Operation), u32> {
+    record.expect(OPEN, slot, Record::all_erased)?;
     let held = record.bytes_taken % WORD;
     let missing = record.file_length - record.bytes_taken;
     let taken = piece.len().min(WORD - held).min(missing);
@@ -144,15 +186,22 @@ pub fn fill(record: &mut Record, piece: &[u8], slot: &mut [u8]) -> Result<usize,
     word[held..held + taken].copy_from_slice(&piece[..taken]);
     let at = record.bytes_taken - held;
     let completed = taken != 0 && held + taken == WORD;
+    let mut operation = Operation::Nothing;
     if completed && at == 0 {
         record.first = word;
     } else if completed {
-        expect_erased(slot, at)?;
-        slot[at..at + WORD].copy_from_slice(&word);
+        refuse_unless(is_erased(slot, at), NOT_ERASED)?;
+        operation = Operation::StoreWord(at, word);
         record.operations += 1;
     }
     record.word = word;
     record.bytes_taken += taken;
+    Ok((taken, operation))
+}
+
+pub fn fill(record: &mut Record, piece: &[u8], slot: &mut [u8]) -> Result<usize, u32> {
+    let (taken, operation) = plan_fill(record, piece, slot)?;
+    operation.make(slot);
     Ok(taken)
 }
 
@@ -164,12 +213,23 @@ pub struct Asked {
 }
 
 pub fn ask(record: &Record, slot: &[u8]) -> Result<Asked, u32> {
-    record.expect(slot, Record::full)?;
+    record.expect(OPEN, slot, Record::full)?;
     let file = record.file(slot);
     Ok(Asked {
         vendor: vendor_digest(&file),
         firmware: firmware_digest(&file),
     })
+}
+
+/// What a chip needs for each header of the file that Ask asks about: nothing where Ask is refused.
+pub fn signatures(record: &Record, slot: &[u8]) -> [Signature; 2] {
+    match record.expect(OPEN, slot, Record::full) {
+        Err(_) => Default::default(),
+        Ok(()) => {
+            let file = record.file(slot);
+            [vendor_signature(&file), firmware_signature(&file)]
+        }
+    }
 }
 
 /// A refusal that is a number alone.
@@ -181,13 +241,28 @@ fn alone(number: u32) -> Refusal {
     }
 }
 
-/// Close: Done, or a refusal. Of the refusals only the check's ends the session.
-pub fn close(record: &mut Record, slot: &mut [u8], inputs: &Inputs) -> Result<(), Refusal> {
-    record.expect(slot, Record::full).map_err(alone)?;
-    expect_erased(slot, 0).map_err(alone)?;
+/// Close: the file is accepted, or a refusal. Of the refusals only the check's ends the session.
+pub fn plan_close(record: &mut Record, slot: &[u8], inputs: &Inputs) -> Result<Operation, Refusal> {
+    record.expect(OPEN, slot, Record::full).map_err(alone)?;
+    refuse_unless(is_erased(slot, 0), NOT_ERASED).map_err(alone)?;
     record.phase = OVER;
     check(Form::File, &record.file(slot), inputs)?;
-    slot[..WORD].copy_from_slice(&record.first);
+    record.phase = ACCEPTED;
     record.operations += 1;
+    Ok(Operation::StoreWord(0, record.first))
+}
+
+/// Close with its operation made, which then needs no confirm: Done, or a refusal.
+pub fn close(record: &mut Record, slot: &mut [u8], inputs: &Inputs) -> Result<(), Refusal> {
+    plan_close(record, slot, inputs)?.make(slot);
+    record.phase = OVER;
+    Ok(())
+}
+
+/// Confirm: Done if word 0 stands in the slot.
+pub fn confirm(record: &mut Record, slot: &[u8]) -> Result<(), u32> {
+    record.expect(ACCEPTED, slot, |_| true)?;
+    refuse_unless(slot[..WORD] == record.first, NOT_LANDED)?;
+    record.phase = OVER;
     Ok(())
 }

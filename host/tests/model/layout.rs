@@ -52,12 +52,12 @@ impl Vendor<'_> {
         self.0[15].into()
     }
 
-    fn string_length_at(&self) -> usize {
-        32 + 32 * self.vsig_n() as usize
+    pub fn keys(&self) -> Range<usize> {
+        32..32 + 32 * self.vsig_n() as usize
     }
 
     pub fn string(&self) -> Range<usize> {
-        let start = self.string_length_at() + 1;
+        let start = self.keys().end + 1;
         start..start + usize::from(self.0[start - 1])
     }
 
@@ -80,6 +80,11 @@ impl Vendor<'_> {
 
     pub fn sigmask(&self) -> u8 {
         self.0[self.hdrlen() - SEAL]
+    }
+
+    /// Where sigmask and sig stand.
+    pub fn seal(&self) -> Range<usize> {
+        self.hdrlen() - SEAL..self.hdrlen()
     }
 }
 

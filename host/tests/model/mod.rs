@@ -14,17 +14,22 @@
 //! - The phase of a session follows from its numbers, and a record that no session reaches is
 //!   inconsistent. So erase answers 19 once all pages are erased, and every call does with bytes
 //!   taken while pages are still to be erased.
-//! - A first word of a record other than 1 answers 19 in every call here.
+//! - A phase of a record other than 1 answers 19 in every call, but for confirm, where it is any
+//!   other than 2.
 //! - 23 is answered only where a word would be stored. A fill that completes no word, or the first,
 //!   does not look at the slot. At 23 no byte of the piece is taken. Close tests the first word
 //!   before it runs the check. Ask never answers 23.
 //! - Ask answers 19 once, for both digests.
 //! - Storing a word of four bytes of 255 is an operation, and is counted.
-//! - Done tells nothing else.
+//! - Done tells nothing else. A confirm that answers 27 leaves the record as it was.
+//! - A verdict is yes if its word is 1, and no otherwise.
+//! - A number that does not fit its field is 28, before every other refusal of a writer. The key
+//!   numbers m and n are 4 instead.
 //!
-//! Two more such points are not modelled, and are tested in `differential`: `where` is always
-//! written and is 0 on success (archive/mod.rs), and the reserved words of a record are not read,
-//! are 0 after begin, and stay as they are in every other call (both.rs).
+//! Some more such points are not modelled, and are tested in `differential`: an answer and an
+//! operation are always written, the part and the chunk are 0 on success, and an operation is three
+//! zeros where there is none (archive); the reserved words of a record are not read, are 0 after
+//! begin, and stay as they are in every other call (both.rs).
 
 // Each test takes the models that it needs.
 #![allow(dead_code)]

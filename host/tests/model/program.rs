@@ -1,6 +1,6 @@
 //! The inspecting program (specification, 12): what it writes for what is on its standard input.
 
-use super::image::{check, Form, Inputs};
+use super::image::{check, Form, Inputs, YES};
 
 const LIMIT: usize = 65_536;
 
@@ -9,8 +9,8 @@ const INPUTS: Inputs = Inputs {
     time: 0,
     m: 2,
     n: 3,
-    vendor: true,
-    firmware: true,
+    vendor: YES,
+    firmware: YES,
 };
 
 /// The one line, with its line end.

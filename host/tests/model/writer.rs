@@ -5,16 +5,16 @@
 use super::image::{code_length_is_possible, policy_is_possible, vendor_length_is_possible};
 use super::layout::{chunk, hash_of, word, CHUNKS, FIRMWARE_HEADER, SEAL};
 
-/// What the vendor writer takes.
+/// What the vendor writer takes. Numbers are words, and may be too large for their fields.
 #[derive(Clone, Debug)]
 pub struct VendorFields {
     pub expiry: u32,
-    pub major: u8,
-    pub minor: u8,
-    pub m: u8,
-    pub n: u8,
-    pub vtrust: u16,
-    pub sigmask: u8,
+    pub major: u32,
+    pub minor: u32,
+    pub m: u32,
+    pub n: u32,
+    pub vtrust: u32,
+    pub sigmask: u32,
     pub keys: Vec<u8>,
     pub string: Vec<u8>,
     pub picture: Vec<u8>,
@@ -28,7 +28,7 @@ pub struct FirmwareFields {
     pub expiry: u32,
     pub version: [u8; 4],
     pub fix: [u8; 4],
-    pub sigmask: u8,
+    pub sigmask: u32,
     pub sig: [u8; 64],
 }
 
@@ -45,12 +45,16 @@ fn write(header: &[u8], out: &mut [u8]) -> Result<usize, u32> {
     Ok(header.len())
 }
 
+fn byte(number: u32) -> u8 {
+    u8::try_from(number).expect("at most 255")
+}
+
 /// The vendor header up to its sigmask, without the length and the zeros after the picture.
 fn vendor_body(fields: &VendorFields) -> Vec<u8> {
     let mut body = b"TRZV\0\0\0\0".to_vec();
     body.extend(fields.expiry.to_le_bytes());
-    body.extend([fields.major, fields.minor, fields.m, fields.n]);
-    body.extend(fields.vtrust.to_le_bytes());
+    body.extend([fields.major, fields.minor, fields.m, fields.n].map(byte));
+    body.extend(&fields.vtrust.to_le_bytes()[..2]);
     body.extend([0; 14]);
     body.extend(&fields.keys);
     body.push(u8::try_from(fields.string.len()).expect("at most 255"));
@@ -62,9 +66,11 @@ fn vendor_body(fields: &VendorFields) -> Vec<u8> {
 
 /// The vendor header, of v bytes.
 pub fn vendor_header(fields: &VendorFields) -> Result<Vec<u8>, u32> {
-    let (m, n) = (fields.m.into(), fields.n.into());
-    refuse_if(!policy_is_possible(m, n), 4)?; // as S6
-    let keys_are_wrong = fields.keys.len() != 32 * usize::from(fields.n);
+    let bytes = [fields.major, fields.minor, fields.sigmask];
+    let too_large = bytes.iter().any(|number| *number > 255) || fields.vtrust > 65_535;
+    refuse_if(too_large, 28)?;
+    refuse_if(!policy_is_possible(fields.m, fields.n), 4)?; // as S6
+    let keys_are_wrong = fields.keys.len() != 32 * fields.n as usize;
     refuse_if(keys_are_wrong || fields.string.len() > 255, 20)?;
 
     let mut header = vendor_body(fields);
@@ -72,7 +78,7 @@ pub fn vendor_header(fields: &VendorFields) -> Result<Vec<u8>, u32> {
     refuse_if(v > 65_536, 3)?;
     header[4..8].copy_from_slice(&word(v).to_le_bytes());
     header.resize(v - SEAL, 0);
-    header.push(fields.sigmask);
+    header.push(byte(fields.sigmask));
     header.extend(fields.sig);
     Ok(header)
 }
@@ -84,6 +90,7 @@ pub fn write_vendor(fields: &VendorFields, out: &mut [u8]) -> Result<usize, u32>
 
 /// The firmware header, of 1,024 bytes.
 pub fn firmware_header(fields: &FirmwareFields, code: &[u8]) -> Result<Vec<u8>, u32> {
+    refuse_if(fields.sigmask > 255, 28)?;
     let v = fields.v as usize;
     refuse_if(!vendor_length_is_possible(v), 3)?; // as S4
     refuse_if(!code_length_is_possible(code.len(), v), 12)?; // as S16
@@ -99,7 +106,7 @@ pub fn firmware_header(fields: &FirmwareFields, code: &[u8]) -> Result<Vec<u8>, 
         header.extend(hash_of(chunk(code, v, k)));
     }
     header.extend([0; 415]);
-    header.push(fields.sigmask);
+    header.push(byte(fields.sigmask));
     header.extend(fields.sig);
     Ok(header)
 }

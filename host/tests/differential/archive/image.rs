@@ -1,7 +1,9 @@
-//! The checks, the parts, the digest questions and the trust reading of the archive.
+//! The checks, the parts, the digest questions, the places of signatures and the trust reading of
+//! the archive.
 
-use super::{answer, Guarded, BYTE, WORD};
-use crate::model::image::{Form, Image, Inputs, Parts, Refusal, Trust};
+use super::{answer, words_of, Guarded, BYTE, LONG, WORD};
+use crate::model::image::{Form, Image, Inputs, Parts, Refusal, Signature, Trust};
+use std::ops::Range;
 use thimmorel::ffi;
 
 pub fn check(form: Form, bytes: &[u8], inputs: &Inputs) -> Result<Image, Refusal> {
@@ -9,21 +11,19 @@ pub fn check(form: Form, bytes: &[u8], inputs: &Inputs) -> Result<Image, Refusal
         Form::File => ffi::thimmorel_check_file,
         Form::Slot => ffi::thimmorel_check_slot,
     };
-    let mut place = Guarded::<u32, 2>::new(WORD);
+    let mut given = Guarded::holding(words_of(inputs), WORD);
+    let mut told = Guarded::<u32, 3>::new(WORD);
     let mut image = Guarded::<u32, 4>::new(WORD);
     let number = unsafe {
         call(
             bytes.as_ptr(),
-            bytes.len(),
-            inputs.time,
-            inputs.m,
-            inputs.n,
-            inputs.vendor,
-            inputs.firmware,
-            place.pointer(),
+            bytes.len() as u64,
+            given.pointer(),
+            told.pointer(),
             image.pointer(),
         )
     };
+    given.assert_holds(words_of(inputs));
     let image = image
         .written_if(number == 0)
         .map(|[v, codelen, version, fix]| Image {
@@ -32,35 +32,45 @@ pub fn check(form: Form, bytes: &[u8], inputs: &Inputs) -> Result<Image, Refusal
             version: version.to_le_bytes(),
             fix: fix.to_le_bytes(),
         });
-    answer(number, place.written(), image)
+    answer(number, told.written(), image)
+}
+
+/// The places that pairs of a start and a length tell.
+fn places<const N: usize>(numbers: &[u64]) -> [Range<usize>; N] {
+    assert_eq!(numbers.len(), 2 * N);
+    std::array::from_fn(|i| {
+        let (start, length) = (numbers[2 * i], numbers[2 * i + 1]);
+        start as usize..(start + length) as usize
+    })
 }
 
 pub fn parts(bytes: &[u8], number: u32) -> Parts {
-    let mut parts = Guarded::<usize, 6>::new(WORD as usize);
-    unsafe { ffi::thimmorel_parts(bytes.as_ptr(), bytes.len(), number, parts.pointer()) };
-    let parts = parts.written();
-    let part = |i: usize| parts[i]..parts[i] + parts[i + 1];
+    let mut parts = Guarded::<u64, 6>::new(LONG);
+    unsafe {
+        ffi::thimmorel_find_parts(bytes.as_ptr(), bytes.len() as u64, number, parts.pointer());
+    }
+    let [string, picture, code] = places(&parts.written());
     Parts {
-        string: part(0),
-        picture: part(2),
-        code: part(4),
+        string,
+        picture,
+        code,
     }
 }
 
-type Question = unsafe extern "C" fn(*const u8, usize, *mut [u32; 2], *mut [u8; 32]) -> u32;
+type Question = unsafe extern "C" fn(*const u8, u64, *mut ffi::Answer, *mut [u8; 32]) -> u32;
 
 fn question(call: Question, bytes: &[u8]) -> Result<[u8; 32], Refusal> {
-    let mut place = Guarded::<u32, 2>::new(WORD);
+    let mut told = Guarded::<u32, 3>::new(WORD);
     let mut digest = Guarded::<u8, 32>::new(BYTE);
     let number = unsafe {
         call(
             bytes.as_ptr(),
-            bytes.len(),
-            place.pointer(),
+            bytes.len() as u64,
+            told.pointer(),
             digest.pointer(),
         )
     };
-    answer(number, place.written(), digest.written_if(number == 0))
+    answer(number, told.written(), digest.written_if(number == 0))
 }
 
 pub fn vendor_digest(bytes: &[u8]) -> Result<[u8; 32], Refusal> {
@@ -71,6 +81,35 @@ pub fn firmware_digest(bytes: &[u8]) -> Result<[u8; 32], Refusal> {
     question(ffi::thimmorel_firmware_digest, bytes)
 }
 
+/// From the eight numbers of a `struct thimmorel_signature`.
+pub fn signature(numbers: &[u64]) -> Signature {
+    let [sigmask, sig, keys] = places(&numbers[..6]);
+    let word = |number: u64| u32::try_from(number).expect("a number of keys");
+    Signature {
+        sigmask,
+        sig,
+        keys,
+        m: word(numbers[6]),
+        n: word(numbers[7]),
+    }
+}
+
+type Finding = unsafe extern "C" fn(*const u8, u64, *mut ffi::Signature);
+
+fn find(call: Finding, bytes: &[u8]) -> Signature {
+    let mut found = Guarded::<u64, 8>::new(LONG);
+    unsafe { call(bytes.as_ptr(), bytes.len() as u64, found.pointer()) };
+    signature(&found.written())
+}
+
+pub fn vendor_signature(bytes: &[u8]) -> Signature {
+    find(ffi::thimmorel_find_vendor_signature, bytes)
+}
+
+pub fn firmware_signature(bytes: &[u8]) -> Signature {
+    find(ffi::thimmorel_find_firmware_signature, bytes)
+}
+
 fn bit(word: u32) -> bool {
     assert!(word <= 1, "a yes or no is {word}");
     word == 1
@@ -78,7 +117,7 @@ fn bit(word: u32) -> bool {
 
 pub fn trust(bytes: &[u8]) -> Trust {
     let mut trust = Guarded::<u32, 5>::new(WORD);
-    unsafe { ffi::thimmorel_trust(bytes.as_ptr(), bytes.len(), trust.pointer()) };
+    unsafe { ffi::thimmorel_read_trust(bytes.as_ptr(), bytes.len() as u64, trust.pointer()) };
     let [seconds, red, click, string, secret] = trust.written();
     Trust {
         seconds,
