@@ -342,7 +342,7 @@ struct thimmorel_record {
 struct thimmorel_operation {
 	/** One of `enum thimmorel_operation_kind`. */
 	uint32_t kind;
-	/** Where the page or the word starts, in bytes from the slot's start. */
+	/** Where the page or the word starts, in bytes from the slot's start. It is 0 for nothing. */
 	uint32_t offset;
 	/** The word to be stored, its first byte in the low 8 bits. It is 0 for the other kinds. */
 	uint32_t word;
@@ -654,7 +654,8 @@ uint32_t thimmorel_write_firmware(const struct thimmorel_firmware_numbers *numbe
  *  - if the record is inconsistent: more pages erased than the slot has, or bytes taken while pages
  *    are still to be erased; more bytes taken than the file has; a slot or file length that begin
  *    refuses; an operation count that is not the pages erased plus the words stored, which are all
- *    complete words except the first;
+ *    complete words except the first. In the accepted phase all pages are erased and all bytes
+ *    taken, and the first word counts too;
  *
  *  - if the session is not ready for the call, or past it, as each call says below.
  */
@@ -731,7 +732,7 @@ uint32_t thimmorel_fill(struct thimmorel_record *record, const uint8_t *piece,
  * \param slot          the slot.
  * \param slot_length   the number of its bytes.
  * \param answers       always written: the answer for each digest. If the call returns 19, both
- *                      numbers are 19.
+ *                      numbers are 19, and part and chunk are 0.
  * \param digests       written only on success. A digest that is refused is all zero.
  * \return 0, or 19.
  */
