@@ -86,7 +86,7 @@ fn defined(name: &str) -> &str {
 #[test]
 fn the_sizes_of_both_are_the_same() {
     for (name, size) in [
-        ("THIMMOREL_RECORD_WORDS", size_of::<ffi::Record>() / 4),
+        ("THIMMOREL_RECORD_SIZE", size_of::<ffi::Record>()),
         (
             "THIMMOREL_FIRMWARE_HEADER_SIZE",
             thimmorel::FIRMWARE_HEADER_SIZE,
