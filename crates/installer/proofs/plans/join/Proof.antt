@@ -29,18 +29,15 @@ abbrev μ-loop : tie.MeasureT-loop
 returns : tie.Need-returns Inv-loop μ-loop
 returns c =
     let t = c .before .before .before .before in
-    let a = t .before .args in
+    let a = t .before .before .args in
     let n : a .k ≡ 4 = t .if1 .taken in
     let z : a .got ≡ 0 = omega arith in
     rw (n, z) (whole (a .held) (now (a .piece)) (search needs) (omega arith))
 
 loop-holds : tie.Need-loop-holds Inv-loop μ-loop
 loop-holds c =
-    let a = c .before .args in
+    let a = c .before .before .args in
     (omega arith, search needs, paste-zero (a .held) (a .got) (now (a .piece)))
-
-shared-slice-read-w : tie.Need-shared-slice-read-w Inv-loop μ-loop
-shared-slice-read-w c = omega arith
 
 add-w : tie.Need-add-w Inv-loop μ-loop
 add-w c = omega arith
@@ -57,15 +54,15 @@ loop-less c = omega arith
 loop-again : tie.Need-loop-again Inv-loop μ-loop
 loop-again c =
     let t = c .before .before in
-    let a = t .before .before .args in (
+    let a = t .before .before .before .args in (
       omega arith,
       t .loop .inv .1,
-      rw (t .loop .inv .2, add-one) (paste-suc (a .held) (a .got) (now (a .piece)) (t .loop .i) 0 (omega arith) (omega arith)),
+      rw (t .loop .inv .2, add-one, c .byte-at .ensures) (paste-suc (a .held) (a .got) (now (a .piece)) (t .loop .i) 0 (omega arith) (omega arith)),
     )
 
 returns-2 : tie.Need-returns-2 Inv-loop μ-loop
 returns-2 c =
-    let e : c .before .loop .i ≡ c .before .before .before .args .k = omega arith in
+    let e : c .before .loop .i ≡ c .before .before .before .before .args .k = omega arith in
     rw e at (c .before .loop .inv .2)
 
 pub join-spec : {M : Type 1} → statement M
@@ -80,7 +77,7 @@ join-spec =
     (λ c. omega arith)
     returns
     loop-holds
-    shared-slice-read-w
+    (λ c κs. search needs)
     add-w
     array-write-w
     add-i
