@@ -3,14 +3,15 @@
  * verifies the signatures. Start to read at install(); boot() is what runs at each start.
  *
  * main() makes the driver fail at each operation in turn. After a failure the slot holds the old
- * image or is refused with 1, and the next install is Done. The exit status is 0 if that is so, and
- * otherwise the line of the first EXPECT that does not hold. It is valid C99 and C++:
+ * image or is refused with 1, and the next install is Done. The exit status is 0 if that is so;
+ * otherwise it is 1, and the first EXPECT that does not hold is printed. It is valid C99 and C++:
  *
  *     gcc -std=c99 -Iinclude examples/install.c target/staticlib/libthimmorel.a -o target/install
  */
 
 #include <thimmorel.h>
 
+#include <stdio.h>
 #include <string.h>
 
 enum {
@@ -48,14 +49,31 @@ static int store_word(uint32_t offset, uint32_t word)
 	return DRIVER_OK;
 }
 
-/* Make the operation that a call hands back. A refused call hands back nothing to make. */
+/* Whether byte number i of what the operation wrote stands in the slot. */
+static int stands(const struct thimmorel_operation *operation, uint32_t i)
+{
+	uint32_t word = operation->kind == THIMMOREL_OPERATION_ERASE_PAGE ? 0xffffffff : operation->word;
+
+	return slot[operation->offset + i] == (uint8_t)(word >> 8 * (i % THIMMOREL_WORD_SIZE));
+}
+
+/* Make the operation that a call hands back, and read it back: a driver may say that it made what
+   it did not. A refused call hands back nothing to make. */
 static int make(const struct thimmorel_operation *operation)
 {
-	if (operation->kind == THIMMOREL_OPERATION_ERASE_PAGE)
-		return erase_page(operation->offset);
-	if (operation->kind == THIMMOREL_OPERATION_STORE_WORD)
-		return store_word(operation->offset, operation->word);
-	return DRIVER_OK;
+	uint32_t i, length = 0;
+	int error = DRIVER_OK;
+
+	if (operation->kind == THIMMOREL_OPERATION_ERASE_PAGE) {
+		error = erase_page(operation->offset);
+		length = THIMMOREL_PAGE_SIZE;
+	} else if (operation->kind == THIMMOREL_OPERATION_STORE_WORD) {
+		error = store_word(operation->offset, operation->word);
+		length = THIMMOREL_WORD_SIZE;
+	}
+	for (i = 0; i < length && error == DRIVER_OK; i++)
+		error = stands(operation, i) ? DRIVER_OK : DRIVER_FAILED;
+	return error;
 }
 
 /* The board's own keys for vendor headers, how many of how many must sign, and the time. */
@@ -218,7 +236,13 @@ static uint32_t write_image(uint8_t *file, uint32_t version)
 	return refusal;
 }
 
-#define EXPECT(condition) do { if (!(condition)) return __LINE__; } while (0)
+#define EXPECT(condition) \
+	do { \
+		if (!(condition)) { \
+			fprintf(stderr, "%s:%d: %s\n", __FILE__, __LINE__, #condition); \
+			return 1; \
+		} \
+	} while (0)
 
 int main(void)
 {
