@@ -12,7 +12,12 @@ use header::Inputs;
 use image::Answer;
 use image::check_file_word_apart;
 use octets::byte_at;
+use octets::put::byte0;
+use octets::put::byte1;
+use octets::put::byte2;
+use octets::put::byte3;
 use octets::starts_with;
+use octets::u32_at;
 use sessions::Plan;
 use sessions::Reply;
 use sessions::Session;
@@ -21,6 +26,7 @@ ghost use mathlib.Core.Path.{_≡_};
 ghost use Prim.Native.Nat.{_+_, _≤_, _<_};
 ghost use lib.ListN.{length};
 ghost use lib.Seq.{paste};
+ghost use Rattle.octets.specs.Put.{le32};
 ghost use Rattle.sessions.specs.Record.{withBytes};
 ghost use Rattle.sessions.specs.Reply.{told};
 ghost use Rattle.sessions.specs.Calls.{plan, refused, erasePlan, takes, fillPlan, judged, closePlan, confirmOf};
@@ -70,21 +76,45 @@ fn takes(taken: usize, file: usize, len: usize) -> usize
     k
 }
 
-// The word with the piece's first k bytes in it from got on.
+// A word as the number that its bytes tell, the least first.
+fn number_of(w: [u8; 4]) -> u32
+    ensures { λ r. ⌜ le32 r ≡ w ⌝ }
+{
+    u32_at(&w, 0)
+}
+
+// The word with the piece's first k bytes in it from got on, where k is not all four.
+fn join_part(held: [u8; 4], got: usize, piece: &[u8], k: usize) -> [u8; 4]
+    requires { ⌜ (got + k ≤ 4) × (k ≤ length (now piece)) ⌝ }
+    ensures { λ r. ⌜ r ≡ paste held got (now (piece .entry)) k ⌝ }
+{
+    let mut w = held;
+    let mut i: usize = 0;
+    while i < k {
+        w[got + i] = byte_at(piece, i); // in this form the compiler makes no call of it
+        i += 1;
+    }
+    w
+}
+
+// The same for any k, as a number, so that a whole word is read at once.
+fn join_number(held: [u8; 4], got: usize, piece: &[u8], k: usize) -> u32
+    requires { ⌜ (got + k ≤ 4) × (k ≤ length (now piece)) ⌝ }
+    ensures { λ r. ⌜ le32 r ≡ paste held got (now (piece .entry)) k ⌝ }
+{
+    if k == 4 {
+        return number_of([piece[0], piece[1], piece[2], piece[3]]);
+    }
+    number_of(join_part(held, got, piece, k))
+}
+
+// The same as bytes.
 fn join(held: [u8; 4], got: usize, piece: &[u8], k: usize) -> [u8; 4]
     requires { ⌜ (got + k ≤ 4) × (k ≤ length (now piece)) ⌝ }
     ensures { λ r. ⌜ r ≡ paste held got (now (piece .entry)) k ⌝ }
 {
-    if k == 4 {
-        return [piece[0], piece[1], piece[2], piece[3]]; // the usual case
-    }
-    let mut w = held;
-    let mut i: usize = 0;
-    while i < k {
-        w[got + i] = byte_at(piece, i); // in this form no call of memcpy, which costs more than the fill
-        i += 1;
-    }
-    w
+    let n = join_number(held, got, piece, k);
+    [byte0(n), byte1(n), byte2(n), byte3(n)]
 }
 
 // k bytes are taken: the word in progress, the first word, the words to be stored, and the operation.
