@@ -54,11 +54,17 @@ pub numbers-are-read : NumbersAreRead
 unfolding vendorFits vendorOf firmwareFits firmwareOf
 numbers-are-read =
     record {
+      expiry = λ w. refl;
       major = λ w h. byte-kept (getD w 1 0) (and-left _ _ h);
       minor = λ w h. byte-kept (getD w 2 0) (and-left _ _ (and-right (leb (getD w 1 0) 255) _ h));
+      m = λ w h. omega arith;
+      n = λ w h. omega arith;
       trust = λ w h. pair-kept (getD w 5 0) (and-left _ _ (and-right (leb (getD w 2 0) 255) _ (and-right (leb (getD w 1 0) 255) _ h)));
       mask = λ w h. byte-kept (getD w 6 0) (and-right (leb (getD w 5 0) 65535) _ (and-right (leb (getD w 2 0) 255) _ (and-right (leb (getD w 1 0) 255) _ h)));
       keys = λ w. keys-cut (getD w 3 0) (getD w 4 0);
+      firmwareExpiry = λ w. refl;
+      firmwareVersion = λ w. refl;
+      firmwareFix = λ w. refl;
       firmwareMask = λ w h. byte-kept (getD w 4 0) h;
       version = version-back;
     }

@@ -8,13 +8,13 @@ use native.Mathlib.Omega.{arith}
 use native.Mathlib.Nat.{mod-eq-of-lt}
 use lib.Dec.{eqb, leb}
 use lib.ListN.{length, getD, take, drop, replicate}
-use lib.Seq.{take-all, getD-drop, paste, length-paste}
+use lib.Seq.{getD-drop, paste, length-paste}
 use borrow.Author.Tests.{leb-true}
-use Rattle.octets.specs.Read.{u32At, between, bytesAt, startsWith}
+use Rattle.octets.specs.Read.{u32At, startsWith}
 use Rattle.octets.specs.Rounding.{multipleOf}
 use Rattle.octets.specs.Put.{le32}
-use Rattle.octets.proofs.Laws.{and-right, bytes-between}
-use Rattle.octets.proofs.Numbers.{bytes-of}
+use Rattle.octets.proofs.Laws.{and-right}
+use Rattle.octets.proofs.Numbers.{word-back}
 use Rattle.flash.specs.Flash.{startsErased}
 use Rattle.image.specs.Check.{checkFile}
 use Rattle.image.specs.declared.Answer.{Answer}
@@ -81,12 +81,8 @@ paste-word x at piece k w f h g =
 -- ---- a record is read back from its words
 
 -- a word is the bytes of its number
-word-back : (x : List ℕ) → Word x → le32 (u32At x 0) ≡ x
-unfolding u32At bytesAt between
-word-back x w =
-    bytes-of (getD x 0 0) (getD x 1 0) (getD x 2 0) (getD x 3 0) (w .bytes 0) (w .bytes 1) (w .bytes 2) (w .bytes 3)
-    ∙ bytes-between 4 x 0 (omega (arith, w .four))
-    ∙ take-all 4 x (omega (arith, w .four))
+word-kept : (x : List ℕ) → Word x → le32 (u32At x 0) ≡ x
+word-kept x w = word-back x (w .four) (w .bytes 0) (w .bytes 1) (w .bytes 2) (w .bytes 3)
 
 -- each number of a record is below 2 ^ 32
 record Fits (t : Session) : Type 0 where
@@ -106,8 +102,8 @@ read-back old t h first held =
       mod-eq-of-lt (h .pages),
       mod-eq-of-lt (h .taken),
       mod-eq-of-lt (h .operations),
-      word-back (t .first) first,
-      word-back (t .held) held,
+      word-kept (t .first) first,
+      word-kept (t .held) held,
     )
 
 -- ---- begin

@@ -1,11 +1,15 @@
 -- A number and its bytes, least first: each is told by the other, by one division at a time.
 -- Assumes nothing.
-use mathlib.Core.Path.{_≡_}
-use mathlib.Core.List.{[], _∷_}
+use mathlib.Core.Path.{_≡_, _∙_}
+use mathlib.Core.List.{List, [], _∷_}
 use Prim.Native.Nat.{ℕ, _+_, _*_, _/_, _%_, _<_}
 use native.Mathlib.Omega.{arith}
 use native.Mathlib.Nat.{div-add-mod'}
+use lib.ListN.{length, getD}
+use lib.Seq.{take-all}
+use Rattle.octets.specs.Read.{u32At, between, bytesAt}
 use Rattle.octets.specs.Put.{le16, le32}
+use Rattle.octets.proofs.Laws.{bytes-between}
 
 quarter : (x : ℕ) → x / 65536 ≡ x / 256 / 256
 quarter x = omega arith
@@ -43,6 +47,12 @@ small d h = omega arith
 pub bytes-of : (a b c d : ℕ) → a < 256 → b < 256 → c < 256 → d < 256 → le32 (a + 256 * b + 65536 * c + 16777216 * d) ≡ a ∷ b ∷ c ∷ d ∷ []
 bytes-of a b c d ha hb hc hd =
     rw (regroup a b c d, quarter, eighth, up a (b + 256 * (c + 256 * d)) ha, up b (c + 256 * d) hb, up c d hc, low a (b + 256 * (c + 256 * d)) ha, low b (c + 256 * d) hb, low c d hc, small d hd)
+
+-- a word of four bytes is the bytes of its number
+pub word-back : (x : List ℕ) → length x ≡ 4 → getD x 0 0 < 256 → getD x 1 0 < 256 → getD x 2 0 < 256 → getD x 3 0 < 256 → le32 (u32At x 0) ≡ x
+unfolding u32At bytesAt between
+word-back x e a b c d =
+    bytes-of (getD x 0 0) (getD x 1 0) (getD x 2 0) (getD x 3 0) a b c d ∙ bytes-between 4 x 0 (omega arith) ∙ take-all 4 x (omega arith)
 
 pub halves-of : (a b : ℕ) → a < 256 → b < 256 → le16 (a + 256 * b) ≡ a ∷ b ∷ []
 halves-of a b ha hb = rw (up a b ha, low a b ha, small b hb)

@@ -67,6 +67,7 @@ vendor-stands b p =
       sig = taken b (vendorLen b - 64) 64 _ (omega arith);
       sigLong = as-many b _ 64 (omega arith);
       keys = between-none 0 0 b (omega arith);
+      none = (refl, refl);
     }
 
 firmware-stands : (b : List ℕ) → firstFailing (vendorShape b) ≡ Pass → firstFailing (firmwareShape b) ≡ Pass → FirmwareStands b (firmwarePlaces b)

@@ -13,12 +13,13 @@ use Rattle.signing.specs.Digests.{vendorDigest, firmwareDigest}
 use Rattle.signing.specs.Places.{noSignature, vendorSignature, firmwareSignature}
 use Rattle.signing.specs.declared.places.Signature.{Signature}
 
--- of the vendor header: the sigmask that S10 reads, and the 64 bytes behind it, which end the header
+-- of the vendor header: the sigmask that S10 reads, and the 64 bytes behind it, which end the header. No keys
 pub record VendorStands (b : List ℕ) (s : Signature) : Type 0 where
   pub mask : spanOf (s .mask) b ≡ vendorMask b ∷ []
   pub sig : spanOf (s .sig) b ≡ take 64 (drop (vendorLen b - 64) b)
   pub sigLong : length (spanOf (s .sig) b) ≡ 64
   pub keys : spanOf (s .keys) b ≡ []
+  pub none : (s .m ≡ 0) × (s .n ≡ 0)
 
 -- of the firmware header: the sigmask that S19 reads, the 64 bytes behind it, which end the header, and the keys with m of n as S6 has them
 pub record FirmwareStands (b : List ℕ) (s : Signature) : Type 0 where
