@@ -4,6 +4,7 @@ use crate::ffi;
 
 /// An operation of the flash, as the plan calls of a [`Session`](crate::Session) hand it back.
 #[derive(Clone, Copy, Debug, PartialEq, Eq, Hash)]
+#[must_use = "the operation is to be made before the next call"]
 pub enum Operation {
     /// There is nothing to do.
     Nothing,
