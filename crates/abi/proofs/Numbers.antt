@@ -7,7 +7,7 @@ use mathlib.Core.List.{List}
 use native.Mathlib.Omega.{arith}
 use lib.Dec.{leb}
 use lib.ListN.{getD}
-use borrow.Author.Tests.{leb-true, leb-false, lt-leb}
+use borrow.Author.Tests.{leb-true, leb-false, le-leb, lt-leb}
 use Rattle.octets.proofs.Laws.{and-left, and-right}
 use Rattle.octets.proofs.Numbers.{bytes-of}
 use Rattle.header.specs.Steps.{keysImpossible}
@@ -54,6 +54,8 @@ pub numbers-are-read : NumbersAreRead
 unfolding vendorFits vendorOf firmwareFits firmwareOf
 numbers-are-read =
     record {
+      vendorFit = λ w a b c d. rw (le-leb (getD w 1 0) 255 a, le-leb (getD w 2 0) 255 b, le-leb (getD w 5 0) 65535 c, le-leb (getD w 6 0) 255 d);
+      firmwareFit = λ w h. le-leb (getD w 4 0) 255 h;
       expiry = λ w. refl;
       major = λ w h. byte-kept (getD w 1 0) (and-left _ _ h);
       minor = λ w h. byte-kept (getD w 2 0) (and-left _ _ (and-right (leb (getD w 1 0) 255) _ h));

@@ -12,6 +12,9 @@ use Rattle.abi.specs.Answers.{versionWord}
 use Rattle.abi.specs.Headers.{vendorFits, vendorOf, firmwareFits, versionOf, firmwareOf}
 
 pub record NumbersAreRead : Type 0 where
+  -- they fit exactly where each does
+  pub vendorFit : (w : List ℕ) → getD w 1 0 ≤ 255 → getD w 2 0 ≤ 255 → getD w 5 0 ≤ 65535 → getD w 6 0 ≤ 255 → vendorFits w ≡ true
+  pub firmwareFit : (w : List ℕ) → getD w 4 0 ≤ 255 → firmwareFits w ≡ true
   -- the vendor header's
   pub expiry : (w : List ℕ) → vendorOf w .expiry ≡ getD w 0 0
   pub major : (w : List ℕ) → vendorFits w ≡ true → vendorOf w .major ≡ getD w 1 0

@@ -234,8 +234,15 @@ module _ (w slot : List ℕ) where
 -- ---- all of them
 
 pub words-carry-the-record : WordsCarryTheRecord
+unfolding sessionOf
 words-carry-the-record =
     record {
+      phase = λ w. refl;
+      slot = λ w. refl;
+      file = λ w. refl;
+      pages = λ w. refl;
+      taken = λ w. refl;
+      operations = λ w. refl;
       begun = begin-carried;
       erased = λ w slot. erase-carried w slot .1;
       filled = λ w piece slot f. fill-carried w slot (takenBy (sessionOf w) piece) (joined (sessionOf w) piece) (omega arith) (joined-word w piece f) .1;

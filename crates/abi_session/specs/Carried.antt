@@ -10,7 +10,7 @@ use Rattle.octets.specs.Read.{u32At}
 use Rattle.octets.specs.Put.{le32}
 use Rattle.flash.specs.Operation.{bytesOf}
 use Rattle.flash.specs.declared.Word.{Word}
-use Rattle.flash.specs.declared.Operation.the-variants.{ErasePage, StoreWord}
+use Rattle.flash.specs.declared.Operation.the-variants.{Nothing, ErasePage, StoreWord}
 use Rattle.header.specs.declared.Inputs.{Inputs}
 use Rattle.sessions.specs.Calls.{beginOf, erasePlan, eraseOf, fillPlan, fillOf, closePlan, closeOf, confirmOf}
 use Rattle.sessions.specs.Operations.{Writing, planOf}
@@ -29,6 +29,13 @@ CarriesPlan w p = sessionOf (wordsAfterPlan p w) ≡ p .session
 
 -- for any words at entry, the words at exit hold the record that the call gave. Ask changes no word
 pub record WordsCarryTheRecord : Type 0 where
+  -- each number in its own word
+  pub phase : (w : List ℕ) → sessionOf w .phase ≡ getD w 0 0
+  pub slot : (w : List ℕ) → sessionOf w .slot ≡ getD w 1 0
+  pub file : (w : List ℕ) → sessionOf w .file ≡ getD w 2 0
+  pub pages : (w : List ℕ) → sessionOf w .pages ≡ getD w 3 0
+  pub taken : (w : List ℕ) → sessionOf w .taken ≡ getD w 4 0
+  pub operations : (w : List ℕ) → sessionOf w .operations ≡ getD w 5 0
   pub begun : (n f : ℕ) → sessionOf (wordsOf (beginOf n f .session)) ≡ beginOf n f .session
   pub erased : (w slot : List ℕ) → CarriesTurn w (eraseOf (sessionOf w) slot)
   pub filled : (w piece slot : List ℕ) → ((i : ℕ) → getD piece i 0 < 256) → CarriesTurn w (fillOf (sessionOf w) piece slot)
@@ -42,6 +49,7 @@ pub record WordsCarryTheRecord : Type 0 where
 -- the operation that a call hands back stands in its words, on any record, and on a slot whose length 32 bits hold; and the four bytes of a word to be
 -- stored are those of its number, the least first
 pub record WordsTellTheOperation : Type 0 where
+  pub nothing : operationWords Nothing ≡ 0 ∷ 0 ∷ 0 ∷ []
   pub erase : (c : Writing) (s : Session) (slot : List ℕ) (page : ℕ) → length slot < 4294967296 → planOf c s slot .operation ≡ ErasePage page
       → operationWords (ErasePage page) ≡ 1 ∷ page * 4096 ∷ 0 ∷ []
   pub store : (c : Writing) (s : Session) (slot : List ℕ) (at : ℕ) (w : Word) → length slot < 4294967296 → planOf c s slot .operation ≡ StoreWord at w

@@ -4,3 +4,4 @@ pub mod Facts
 pub mod Alike
 pub mod Erased
 pub mod Parts
+pub mod Signed

@@ -1,10 +1,12 @@
--- What is shown of the checks: the two laws on which the installer rests, and what the parts of an accepted image are.
+-- What is shown of the checks: the two laws on which the installer rests, what the parts of an accepted image are, and that it is signed.
 -- Assumes nothing.
 use Prim.Native.Nat.{ℕ, _+_, _-_, _*_}
 use mathlib.Core.Path.{_≡_}
 use mathlib.Core.List.{List, _++_}
+use mathlib.Core.Bool.{true}
 use lib.ListN.{length, take, drop, replicate}
-use Rattle.header.specs.Layout.{keyCount, stringLen, pictureStart}
+use Rattle.octets.specs.Read.{allAre}
+use Rattle.header.specs.Layout.{keyCount, stringLen, pictureStart, imageLen}
 use Rattle.header.specs.Table.{refusal}
 use Rattle.header.specs.declared.Inputs.{Inputs}
 use Rattle.image.specs.declared.Image.{Image}
@@ -38,3 +40,9 @@ pub record PartsStand (b : List ℕ) (a : Answer) (i : Image) : Type 0 where
 pub record AcceptedParts : Type 0 where
   pub file : (b : List ℕ) (given : Inputs) (i : Image) → checkFile b given ≡ Accepted i → PartsStand b (checkFile b given) i
   pub slot : (b : List ℕ) (given : Inputs) (i : Image) → checkSlot b given ≡ Accepted i → PartsStand b (checkSlot b given) i
+
+-- an accepted image has the chip's yes, for both headers, and an accepted slot is erased behind it
+pub record AcceptedIsSigned : Type 0 where
+  pub file : (b : List ℕ) (given : Inputs) (i : Image) → checkFile b given ≡ Accepted i → (given .vendor ≡ true) × (given .firmware ≡ true)
+  pub slot : (b : List ℕ) (given : Inputs) (i : Image) → checkSlot b given ≡ Accepted i → (given .vendor ≡ true) × (given .firmware ≡ true)
+  pub tail : (b : List ℕ) (given : Inputs) (i : Image) → checkSlot b given ≡ Accepted i → allAre 255 (drop (imageLen b) b) ≡ true

@@ -1,5 +1,5 @@
 // What is shown of the checks, each as the promise of a function with an empty body.
-ghost use Rattle.image.specs.Theorems.{ErasedWordRefused, AcceptedBeforeErased, AcceptedParts};
+ghost use Rattle.image.specs.Theorems.{ErasedWordRefused, AcceptedBeforeErased, AcceptedParts, AcceptedIsSigned};
 
 // An erased first word makes the slot check refuse with number 1, for any inputs.
 pub fn erased_word_is_refused()
@@ -14,4 +14,9 @@ pub fn accepted_before_erased_bytes()
 // The parts that are handed back of an accepted image stand where they must, and are as long.
 pub fn accepted_parts()
     ensures { λ r. ⌜ AcceptedParts ⌝ }
+{}
+
+// An accepted image has the chip's yes, for both headers, and an accepted slot is erased behind it.
+pub fn accepted_is_signed()
+    ensures { λ r. ⌜ AcceptedIsSigned ⌝ }
 {}

@@ -10,7 +10,7 @@ use Rattle.header.specs.Layout.{vendorLen, vendorMask, firmwareMask, signersNee
 use Rattle.header.specs.declared.Refusal.{Refusal}
 use Rattle.header.specs.declared.Outcome.the-variants.{Pass, Refused}
 use Rattle.signing.specs.Digests.{vendorDigest, firmwareDigest}
-use Rattle.signing.specs.Places.{noSignature, vendorSignature, firmwareSignature}
+use Rattle.signing.specs.Places.{vendorSignature, firmwareSignature}
 use Rattle.signing.specs.declared.places.Signature.{Signature}
 
 -- of the vendor header: the sigmask that S10 reads, and the 64 bytes behind it, which end the header. No keys
@@ -34,8 +34,12 @@ pub record FirmwareStands (b : List ℕ) (s : Signature) : Type 0 where
   pub within : s .m ≤ s .n
   pub most : s .n ≤ 8
 
+-- no place, and no keys: a value written out here, and not the definition's
+abbrev pub nothing : Signature
+nothing = record { mask = record { from = 0; to = 0 }; sig = record { from = 0; to = 0 }; keys = record { from = 0; to = 0 }; m = 0; n = 0 }
+
 pub record SignaturesStand : Type 0 where
   pub vendor : (b : List ℕ) → vendorDigest b .outcome ≡ Pass → VendorStands b (vendorSignature b)
-  pub vendorNone : (b : List ℕ) (r : Refusal) → vendorDigest b .outcome ≡ Refused r → vendorSignature b ≡ noSignature
+  pub vendorNone : (b : List ℕ) (r : Refusal) → vendorDigest b .outcome ≡ Refused r → vendorSignature b ≡ nothing
   pub firmware : (b : List ℕ) → firmwareDigest b .outcome ≡ Pass → FirmwareStands b (firmwareSignature b)
-  pub firmwareNone : (b : List ℕ) (r : Refusal) → firmwareDigest b .outcome ≡ Refused r → firmwareSignature b ≡ noSignature
+  pub firmwareNone : (b : List ℕ) (r : Refusal) → firmwareDigest b .outcome ≡ Refused r → firmwareSignature b ≡ nothing
