@@ -1,8 +1,9 @@
 /*
  * The interface of libthimmorel.a, for C99 and C++. This file documents each call in full.
  *
- * Each call is proved equal to a definition, in crates/abi/specs and in the specs of the
- * crates below it. The comments here retell these definitions, and nothing checks that they do.
+ * Each call is proved equal to a definition, in crates/abi/specs, crates/abi_session/specs and the
+ * specs of the crates below them. The comments here retell these definitions, and nothing checks
+ * that they do.
  * docs/PROMISES.md lists the statements that are proved, and docs/TRUST.md what is assumed.
  */
 
@@ -28,7 +29,7 @@ extern "C" {
  *
  * `rt staticlib thimmorel` writes `target/staticlib/libthimmorel.a`, for x86-64 Linux. A program
  * includes this header and links the archive, which needs `memcpy` and `memset` of the C library
- * and nothing else. The header is the same for 64-bit and 32-bit machines: the length of a slice
+ * and nothing else. The header has no type whose size depends on the machine: the length of a slice
  * and the places in it are `uint64_t`, and the numbers in structs are `uint32_t`.
  *
  * ## Memory
@@ -227,9 +228,9 @@ struct thimmorel_inputs {
 	uint32_t firmware_verdict;
 };
 
-/** \brief The answer of a check or of a digest question. It is always written. */
+/** \brief The answer of a check, a digest question or a close. It is always written. */
 struct thimmorel_answer {
-	/** What the call returns: one of `enum thimmorel_error`. */
+	/** One of `enum thimmorel_error`. */
 	uint32_t number;
 	/** One of `enum thimmorel_part`. It is 0 on success. */
 	uint32_t part;
@@ -332,9 +333,9 @@ struct thimmorel_record {
 	uint32_t operations;
 	/** The first word of the file once it is complete, its first byte in the low 8 bits. */
 	uint32_t first_word;
-	/** The bytes taken of the word in progress, likewise. */
+	/** The bytes taken of the word in progress, likewise. Its other bytes are left from before. */
 	uint32_t current_word;
-	/** Begin writes 0, every other call leaves them, and no call reads them. */
+	/** Begin writes 0, every other call leaves them, and no answer depends on them. */
 	uint32_t reserved[8];
 };
 
@@ -428,8 +429,8 @@ uint32_t thimmorel_check_file(const uint8_t *bytes, uint64_t length,
  * \brief Check an image that is in a slot: the bytes after the code must be erased.
  *
  * This is the check to make before the firmware is started. Arguments, answers and steps are those
- * of thimmorel_check_file(), except for S22: it fails if a byte after the code is not 255. The
- * check looks at all of the bytes, and does not test the slot's length.
+ * of thimmorel_check_file(), except for S22: it fails if a byte after the code is not 255. It looks
+ * at every such byte that is passed. The slot's length is not tested.
  */
 uint32_t thimmorel_check_slot(const uint8_t *bytes, uint64_t length,
 	const struct thimmorel_inputs *inputs, struct thimmorel_answer *answer,
@@ -519,7 +520,8 @@ void thimmorel_find_firmware_signature(const uint8_t *bytes, uint64_t length,
  * A feature is active if its bit of vtrust is unset. Bits 0 to 3 add 1, 2, 4 and 8 seconds of
  * waiting; bit 4 gives a red background, bit 5 asks for a click, bit 6 shows the string, and bit 7
  * allows the pairing secret. Bits 8 to 15 have no meaning. The call is meant for bytes that a check
- * accepted. It cannot fail: a byte of vtrust past the end counts as 0.
+ * accepted. It cannot fail: a byte of vtrust past the end counts as 0, so that for too few bytes
+ * every feature is told as active, the pairing secret among them.
  *
  * \param bytes    the image, or its start.
  * \param length   the number of bytes.
@@ -641,9 +643,9 @@ uint32_t thimmorel_write_firmware(const struct thimmorel_firmware_numbers *numbe
  *
  * ## The record
  *
- * A session is kept in a `struct thimmorel_record` that the caller owns. Pass it from call to call
- * unchanged. It may be copied, stored and restored, and its words keep their meaning in later
- * versions. Its numbers tell how far the install is.
+ * A session is kept in a `struct thimmorel_record` that the caller owns. Pass to each call what the
+ * last one left, unchanged. It may be moved or stored between two calls. Its numbers tell how far
+ * the install is.
  *
  * Any words are allowed and get an answer. A call answers 19
  *
