@@ -10,10 +10,11 @@ use lib.ListN.{length, getD, take, drop, length-take, length-drop}
 use lib.Seq.{ext-getD, getD-take, getD-drop}
 use lib.Dec.{ltb, eqb}
 use borrow.Author.Tests.{lt-ltb, le-ltb, ltb-false}
-use Rattle.octets.specs.Read.{u16At, u32At, between, bytesAt, allAre, startsWith}
+use Rattle.octets.specs.Read.{u32At, between, bytesAt, allAre, startsWith}
 use Rattle.octets.proofs.Laws.{split}
+use Rattle.code_header.specs.Tests.{expired, maskWrong}
 use Rattle.header.specs.Layout.{TRZF, vendorLen, signersNeeded, keyCount, stringLen, stringLenAt, stringEnd, pictureStart, maskAt, codeLen, imageLen, firstRoom}
-use Rattle.header.specs.Steps.{keysImpossible, lengthImpossible, expired, maskWrong, codeLenImpossible, shorterThanAnyHeader, vendorLenImpossible, vendorHeaderCut, vendorKeysImpossible, stringLeavesNoRoom, vendorBytesNotZero, vendorExpired, vendorMaskWrong, firmwareHeaderCut, firmwareMagicMissing, firmwareLenWrong, firstChunkHasNoRoom, codeLenWrong, firmwareBytesNotZero, firmwareExpired, firmwareMaskWrong, codeCut}
+use Rattle.header.specs.Steps.{keysImpossible, lengthImpossible, codeLenImpossible, shorterThanAnyHeader, vendorLenImpossible, vendorHeaderCut, vendorKeysImpossible, stringLeavesNoRoom, vendorBytesNotZero, vendorExpired, vendorMaskWrong, firmwareHeaderCut, firmwareMagicMissing, firmwareLenWrong, firstChunkHasNoRoom, codeLenWrong, firmwareBytesNotZero, firmwareExpired, firmwareMaskWrong, codeCut}
 use Rattle.header.specs.Table.{firstFailing, vendorShape, vendorPolicy, firmwareShape, firmwarePolicy, headerRows}
 use Rattle.header.specs.Alike.{Alike, ReadByHeaders}
 use Rattle.header.specs.declared.Inputs.{Inputs}
@@ -26,10 +27,6 @@ cut a e x = omega arith
 -- ---- numbers, lengths and parts
 
 module _ {R N : ℕ → Bool} {b c : List ℕ} (w : Alike R N b c) where
-  pub u16-alike : (at : ℕ) → R at ≡ true → R (at + 1) ≡ true → u16At b at ≡ u16At c at
-  unfolding u16At
-  u16-alike at h g = rw (w .at at h, w .at (at + 1) g)
-
   pub u32-alike : (at : ℕ) → ((i : ℕ) → at ≤ i → i < at + 4 → R i ≡ true) → u32At b at ≡ u32At c at
   unfolding u32At
   u32-alike at h =
@@ -65,16 +62,6 @@ module _ {R N : ℕ → Bool} {b c : List ℕ} (w : Alike R N b c) where
           let l : i < e - a = omega arith in
           rw (getD-take (e - a) (drop a b) i 0 l, getD-take (e - a) (drop a c) i 0 l, getD-drop a b i 0, getD-drop a c i 0)
           (w .at (a + i) (h (a + i) (omega arith) (omega arith)))
-
-  -- all that follows, of lists of one length
-  pub drop-alike : length b ≡ length c → (a : ℕ) → ((i : ℕ) → a ≤ i → R i ≡ true) → drop a b ≡ drop a c
-  drop-alike l a h =
-      ext-getD
-      0
-      (drop a b)
-      (drop a c)
-      (simp (length-drop, l))
-      (λ i g. getD-drop a b i 0 ∙ w .at (a + i) (h (a + i) (omega arith)) ∙ sym (getD-drop a c i 0))
 
   -- n bytes at an offset, with zeros past the end
   pub bytes-alike : (n at : ℕ) → ((i : ℕ) → at ≤ i → i < at + n → R i ≡ true) → bytesAt n b at ≡ bytesAt n c at

@@ -1,31 +1,24 @@
 -- What a passing test, and a passing group of rows, says of numbers and bytes.
 -- Assumes nothing.
 use Prim.Native.Nat.{ℕ, _+_, _-_, _%_, _≤_, _<_}
-use mathlib.Core.Path.{_≡_, refl}
+use mathlib.Core.Path.{_≡_}
 use mathlib.Core.List.{List}
 use mathlib.Core.Bool.{Bool, true, false, not, _&&_, _||_}
 use native.Mathlib.Omega.{arith}
 use lib.ListN.{length}
-use lib.Dec.{leb, ltb, eqb}
+use lib.Dec.{leb, ltb}
 use borrow.Author.Tests.{ltb-false, leb-true, eqb-true, eqb-false, not-false, lt-ltb}
 use Rattle.octets.specs.Read.{between, allAre, startsWith}
 use Rattle.octets.specs.Rounding.{multipleOf}
-use Rattle.octets.proofs.Laws.{and-left, and-right}
+use Rattle.octets.proofs.Laws.{and-left, and-right, or-left, or-right}
+use Rattle.code_header.proofs.Facts.{CodeLenInside, code-len-inside}
+use Rattle.code_header.specs.Tests.{expired, maskWrong}
 use Rattle.header.specs.Layout.{TRZF, vendorLen, vendorExpiry, signersNeeded, keyCount, stringLen, stringEnd, pictureStart, vendorMask, firmwareMagic, firmwareLen, firmwareExpiry, codeLen, firmwareMask, imageLen, firstRoom}
-use Rattle.header.specs.Steps.{keysImpossible, lengthImpossible, expired, maskWrong, codeLenImpossible, policyImpossible, shorterThanAnyHeader, vendorLenImpossible, vendorHeaderCut, vendorKeysImpossible, stringLeavesNoRoom, vendorBytesNotZero, vendorExpired, vendorMaskWrong, firmwareHeaderCut, firmwareMagicMissing, firmwareLenWrong, firstChunkHasNoRoom, codeLenWrong, firmwareBytesNotZero, firmwareExpired, firmwareMaskWrong, codeCut}
+use Rattle.header.specs.Steps.{keysImpossible, lengthImpossible, codeLenImpossible, policyImpossible, shorterThanAnyHeader, vendorLenImpossible, vendorHeaderCut, vendorKeysImpossible, stringLeavesNoRoom, vendorBytesNotZero, vendorExpired, vendorMaskWrong, firmwareHeaderCut, firmwareMagicMissing, firmwareLenWrong, firstChunkHasNoRoom, codeLenWrong, firmwareBytesNotZero, firmwareExpired, firmwareMaskWrong, codeCut}
 use Rattle.header.specs.Table.{refusal, firstFailing, vendorShape, vendorPolicy, firmwareShape, firmwarePolicy, headerRows, extentRows}
 use Rattle.header.specs.declared.Inputs.{Inputs}
 use Rattle.header.specs.declared.Outcome.the-variants.{Pass, Refused}
 use Rattle.header.proofs.Rows.{pass-head, pass-tail, stage-first, stage-then}
-
--- both sides of a disjunction fail
-pub or-left : (x y : Bool) → (x || y) ≡ false → x ≡ false
-or-left true y h = h
-or-left false y h = refl
-
-pub or-right : (x y : Bool) → (x || y) ≡ false → y ≡ false
-or-right true y h = cc
-or-right false y h = h
 
 -- ---- the tests that several steps share
 
@@ -65,21 +58,11 @@ length-possible v h =
     }
 
 -- a length of code behind a vendor header of v bytes
-pub record CodeLenPossible (v c : ℕ) : Type 0 where
-  pub test : codeLenImpossible v c ≡ false
-  pub some : 1 ≤ c
-  pub whole : c % 4 ≡ 0
-  pub most : c ≤ 2097152 - 1024 - v
+abbrev pub CodeLenPossible : ℕ → ℕ → Type 0
+CodeLenPossible v c = CodeLenInside (2097152 - 1024 - v) c
 
 pub code-len-possible : (v c : ℕ) → codeLenImpossible v c ≡ false → CodeLenPossible v c
-code-len-possible v c h =
-    let l : (eqb c 0 || not (multipleOf 4 c)) ≡ false = or-left _ (ltb (2097152 - 1024 - v) c) h in
-    record {
-      test = h;
-      some = let z = eqb-false c 0 (or-left _ (not (multipleOf 4 c)) l) in omega arith;
-      whole = eqb-true (c % 4) 0 (not-false _ (or-right (eqb c 0) _ l));
-      most = ltb-false (2097152 - 1024 - v) c (or-right (eqb c 0 || not (multipleOf 4 c)) _ h);
-    }
+code-len-possible v c h = code-len-inside (2097152 - 1024 - v) c h
 
 -- ---- the groups of rows
 

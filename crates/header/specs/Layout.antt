@@ -3,8 +3,9 @@
 use Prim.Native.Nat.{ℕ, _+_, _-_, _*_}
 use mathlib.Core.List.{List, [], _∷_}
 use lib.ListN.{getD}
-use Rattle.octets.specs.Read.{u16At, u32At, between}
+use Rattle.octets.specs.Read.{u16At, u32At}
 use Rattle.octets.specs.Rounding.{roundUp}
+use Rattle.code_header.specs.Layout.{magicAt, hdrLenAt, expiryAt, codeLenAt, sigmaskAt, codeStartAt, codeEndAt}
 
 -- ---- the vendor header, v bytes
 
@@ -62,28 +63,28 @@ abbrev pub TRZF : List ℕ
 TRZF = 84 ∷ 82 ∷ 90 ∷ 70 ∷ []
 
 abbrev pub firmwareMagic : List ℕ → List ℕ
-firmwareMagic b = between (vendorLen b) (vendorLen b + 4) b
+firmwareMagic b = magicAt b (vendorLen b)
 
 abbrev pub firmwareLen : List ℕ → ℕ
-firmwareLen b = u32At b (vendorLen b + 4)
+firmwareLen b = hdrLenAt b (vendorLen b)
 
 abbrev pub firmwareExpiry : List ℕ → ℕ
-firmwareExpiry b = u32At b (vendorLen b + 8)
+firmwareExpiry b = expiryAt b (vendorLen b)
 
 abbrev pub codeLen : List ℕ → ℕ
-codeLen b = u32At b (vendorLen b + 12)
+codeLen b = codeLenAt b (vendorLen b)
 
 abbrev pub firmwareMask : List ℕ → ℕ
-firmwareMask b = getD b (vendorLen b + 959) 0
+firmwareMask b = sigmaskAt b (vendorLen b)
 
 -- ---- the code
 
 abbrev pub codeStart : List ℕ → ℕ
-codeStart b = vendorLen b + 1024
+codeStart b = codeStartAt (vendorLen b)
 
 -- where the code ends, and with it the image
 abbrev pub imageLen : List ℕ → ℕ
-imageLen b = codeStart b + codeLen b
+imageLen b = codeEndAt b (vendorLen b)
 
 -- chunk 1 has room for what the two headers leave of 131,072 bytes
 abbrev pub firstRoom : ℕ → ℕ

@@ -3,11 +3,12 @@
 use Prim.Native.Nat.{ℕ, _+_, _-_}
 use mathlib.Core.List.{List}
 use mathlib.Core.Bool.{Bool, not, _&&_, _||_}
-use lib.ListN.{length, drop}
+use lib.ListN.{length}
 use lib.Dec.{leb, ltb, eqb}
-use Rattle.octets.specs.Read.{between, allAre, startsWith, bitAtOrAbove, onesOf}
+use Rattle.octets.specs.Read.{between, allAre, startsWith}
 use Rattle.octets.specs.Rounding.{multipleOf}
-use Rattle.header.specs.Layout.{TRZV, TRZF, vendorLen, vendorExpiry, signersNeeded, keyCount, stringLen, stringEnd, pictureStart, vendorMask, firmwareMagic, firmwareLen, firmwareExpiry, codeLen, firmwareMask, imageLen, firstRoom}
+use Rattle.code_header.specs.Tests.{expired, maskWrong, codeLenOutside, headerCutAt, magicMissingAt, hdrLenWrongAt, bytesNotZeroAt, expiredAt, maskWrongAt, codeCutAt, bytesFollowAt, tailNotAt}
+use Rattle.header.specs.Layout.{TRZV, TRZF, vendorLen, vendorExpiry, signersNeeded, keyCount, stringLen, stringEnd, pictureStart, vendorMask, codeLen, firstRoom}
 
 -- ---- tests that several steps, and the writers, share
 
@@ -19,17 +20,9 @@ keysImpossible m n = not (leb 1 m && leb m n && leb n 8)
 abbrev pub lengthImpossible : ℕ → Bool
 lengthImpossible v = not (multipleOf 512 v) || ltb v 512 || ltb 65536 v
 
--- an expiry that is not 0, and a time above it
-abbrev pub expired : ℕ → ℕ → Bool
-expired expiry time = not (eqb expiry 0) && ltb expiry time
-
--- a mask with a bit at n or higher, or with fewer than m ones
-abbrev pub maskWrong : ℕ → ℕ → ℕ → Bool
-maskWrong m n mask = bitAtOrAbove n mask || ltb (onesOf mask) m
-
 -- a code length that is 0, not a multiple of 4, or above 2,097,152 - 1,024 - v
 abbrev pub codeLenImpossible : ℕ → ℕ → Bool
-codeLenImpossible v c = eqb c 0 || not (multipleOf 4 c) || ltb (2097152 - 1024 - v) c
+codeLenImpossible v c = codeLenOutside (2097152 - 1024 - v) c
 
 -- ---- the vendor header
 
@@ -75,19 +68,19 @@ vendorExpired b time = expired (vendorExpiry b) time
 unfoldable pub vendorMaskWrong : List ℕ → ℕ → ℕ → Bool
 vendorMaskWrong b m n = maskWrong m n (vendorMask b)
 
--- ---- the firmware header
+-- ---- the firmware header, which starts at v
 
 -- S12
 unfoldable pub firmwareHeaderCut : List ℕ → Bool
-firmwareHeaderCut b = ltb (length b) (vendorLen b + 1024)
+firmwareHeaderCut b = headerCutAt b (vendorLen b)
 
 -- S13
 unfoldable pub firmwareMagicMissing : List ℕ → Bool
-firmwareMagicMissing b = not (startsWith TRZF (firmwareMagic b))
+firmwareMagicMissing b = magicMissingAt b (vendorLen b) TRZF
 
 -- S14
 unfoldable pub firmwareLenWrong : List ℕ → Bool
-firmwareLenWrong b = not (eqb (firmwareLen b) 1024)
+firmwareLenWrong b = hdrLenWrongAt b (vendorLen b)
 
 -- S15
 unfoldable pub firstChunkHasNoRoom : List ℕ → Bool
@@ -97,30 +90,28 @@ firstChunkHasNoRoom b = eqb (firstRoom (vendorLen b)) 0
 unfoldable pub codeLenWrong : List ℕ → Bool
 codeLenWrong b = codeLenImpossible (vendorLen b) (codeLen b)
 
--- S17: the 8 bytes from 24 on, and the 415 from 544 on
+-- S17
 unfoldable pub firmwareBytesNotZero : List ℕ → Bool
-firmwareBytesNotZero b =
-    not (allAre 0 (between (vendorLen b + 24) (vendorLen b + 32) b)
-    && allAre 0 (between (vendorLen b + 544) (vendorLen b + 959) b))
+firmwareBytesNotZero b = bytesNotZeroAt b (vendorLen b)
 
 -- S18
 unfoldable pub firmwareExpired : List ℕ → ℕ → Bool
-firmwareExpired b time = expired (firmwareExpiry b) time
+firmwareExpired b time = expiredAt b (vendorLen b) time
 
 -- S19, by the vendor's own counts
 unfoldable pub firmwareMaskWrong : List ℕ → Bool
-firmwareMaskWrong b = maskWrong (signersNeeded b) (keyCount b) (firmwareMask b)
+firmwareMaskWrong b = maskWrongAt b (vendorLen b) (signersNeeded b) (keyCount b)
 
 -- ---- the extent
 
 -- S21
 unfoldable pub codeCut : List ℕ → Bool
-codeCut b = ltb (length b) (imageLen b)
+codeCut b = codeCutAt b (vendorLen b)
 
 -- S22 of a file: more bytes than the image has
 unfoldable pub bytesFollow : List ℕ → Bool
-bytesFollow b = ltb (imageLen b) (length b)
+bytesFollow b = bytesFollowAt b (vendorLen b)
 
 -- S22 of a slot: a later byte that is not 255
 unfoldable pub tailNotErased : List ℕ → Bool
-tailNotErased b = not (allAre 255 (drop (imageLen b) b))
+tailNotErased b = tailNotAt b (vendorLen b) 255

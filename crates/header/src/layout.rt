@@ -1,11 +1,10 @@
 // Where fields stand, and what stands there.
 use octets::byte_at;
 use octets::minus;
-use octets::part;
 use octets::u16_at;
 use octets::u32_at;
 ghost use mathlib.Core.Path.{_≡_};
-ghost use Rattle.header.specs.Layout.{vendorLen, vendorExpiry, signersNeeded, keyCount, vtrust, stringLen, stringStart, stringEnd, pictureStart, vendorMask, firmwareMagic, firmwareLen, firmwareExpiry, codeLen, firmwareMask, codeStart, imageLen, firstRoom};
+ghost use Rattle.header.specs.Layout.{vendorLen, vendorExpiry, signersNeeded, keyCount, vtrust, stringLen, stringStart, stringEnd, pictureStart, vendorMask, firstRoom};
 
 pub fn vendor_len(b: &[u8]) -> u32
     ensures { λ r. ⌜ r ≡ vendorLen (now (b .entry)) ⌝ }
@@ -68,50 +67,6 @@ pub fn vendor_mask(b: &[u8]) -> u8
     ensures { λ r. ⌜ r ≡ vendorMask (now (b .entry)) ⌝ }
 {
     byte_at(b, minus(vendor_len(b) as usize, 65))
-}
-
-pub fn firmware_magic(b: &[u8]) -> &[u8]
-    ensures { λ r. ⌜ now r ≡ firmwareMagic (now (b .entry)) ⌝ }
-{
-    let v = vendor_len(b) as usize;
-    part(b, v, v + 4)
-}
-
-pub fn firmware_len(b: &[u8]) -> u32
-    ensures { λ r. ⌜ r ≡ firmwareLen (now (b .entry)) ⌝ }
-{
-    u32_at(b, vendor_len(b) as usize + 4)
-}
-
-pub fn firmware_expiry(b: &[u8]) -> u32
-    ensures { λ r. ⌜ r ≡ firmwareExpiry (now (b .entry)) ⌝ }
-{
-    u32_at(b, vendor_len(b) as usize + 8)
-}
-
-pub fn code_len(b: &[u8]) -> u32
-    ensures { λ r. ⌜ r ≡ codeLen (now (b .entry)) ⌝ }
-{
-    u32_at(b, vendor_len(b) as usize + 12)
-}
-
-pub fn firmware_mask(b: &[u8]) -> u8
-    ensures { λ r. ⌜ r ≡ firmwareMask (now (b .entry)) ⌝ }
-{
-    byte_at(b, vendor_len(b) as usize + 959)
-}
-
-pub fn code_start(b: &[u8]) -> usize
-    ensures { λ r. ⌜ r ≡ codeStart (now (b .entry)) ⌝ }
-{
-    vendor_len(b) as usize + 1024
-}
-
-// Where the code ends, and with it the image.
-pub fn image_len(b: &[u8]) -> usize
-    ensures { λ r. ⌜ r ≡ imageLen (now (b .entry)) ⌝ }
-{
-    vendor_len(b) as usize + 1024 + code_len(b) as usize
 }
 
 // How many bytes of code chunk 1 has room for, behind a vendor header of v bytes.

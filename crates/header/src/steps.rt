@@ -1,12 +1,6 @@
 // The steps, each as a test that is true where the step fails. The definitions in
 // `specs/Steps.antt` say which step of the specification each is.
-use crate::layout::code_len;
-use crate::layout::firmware_expiry;
-use crate::layout::firmware_len;
-use crate::layout::firmware_magic;
-use crate::layout::firmware_mask;
 use crate::layout::first_room;
-use crate::layout::image_len;
 use crate::layout::key_count;
 use crate::layout::picture_start;
 use crate::layout::signers_needed;
@@ -15,15 +9,25 @@ use crate::layout::string_len;
 use crate::layout::vendor_expiry;
 use crate::layout::vendor_len;
 use crate::layout::vendor_mask;
+use code_header::layout::code_len_at;
+use code_header::tests::bytes_follow_at;
+use code_header::tests::bytes_not_zero_at;
+use code_header::tests::code_cut_at;
+use code_header::tests::code_len_outside;
+use code_header::tests::expired;
+use code_header::tests::expired_at;
+use code_header::tests::hdr_len_wrong_at;
+use code_header::tests::header_cut_at;
+use code_header::tests::magic_missing_at;
+use code_header::tests::mask_wrong;
+use code_header::tests::mask_wrong_at;
+use code_header::tests::tail_not_at;
 use octets::all_are;
-use octets::bit_at_or_above;
 use octets::minus;
-use octets::ones;
 use octets::part;
-use octets::rest;
 use octets::starts_with;
 ghost use mathlib.Core.Path.{_≡_};
-ghost use Rattle.header.specs.Steps.{keysImpossible, lengthImpossible, expired, maskWrong, codeLenImpossible, vendorMagicMissing, policyImpossible, shorterThanAnyHeader, vendorLenImpossible, vendorHeaderCut, vendorKeysImpossible, stringLeavesNoRoom, vendorBytesNotZero, vendorExpired, vendorMaskWrong, firmwareHeaderCut, firmwareMagicMissing, firmwareLenWrong, firstChunkHasNoRoom, codeLenWrong, firmwareBytesNotZero, firmwareExpired, firmwareMaskWrong, codeCut, bytesFollow, tailNotErased};
+ghost use Rattle.header.specs.Steps.{keysImpossible, lengthImpossible, codeLenImpossible, vendorMagicMissing, policyImpossible, shorterThanAnyHeader, vendorLenImpossible, vendorHeaderCut, vendorKeysImpossible, stringLeavesNoRoom, vendorBytesNotZero, vendorExpired, vendorMaskWrong, firmwareHeaderCut, firmwareMagicMissing, firmwareLenWrong, firstChunkHasNoRoom, codeLenWrong, firmwareBytesNotZero, firmwareExpired, firmwareMaskWrong, codeCut, bytesFollow, tailNotErased};
 
 pub fn keys_impossible(m: u32, n: u32) -> bool
     ensures { λ r. ⌜ r ≡ keysImpossible m n ⌝ }
@@ -37,22 +41,10 @@ pub fn length_impossible(v: u32) -> bool
     (v % 512 != 0) | (v < 512) | (65536 < v)
 }
 
-pub fn expired(expiry: u32, time: u32) -> bool
-    ensures { λ r. ⌜ r ≡ expired expiry time ⌝ }
-{
-    (expiry != 0) & (expiry < time)
-}
-
-pub fn mask_wrong(m: u32, n: u32, mask: u8) -> bool
-    ensures { λ r. ⌜ r ≡ maskWrong m n mask ⌝ }
-{
-    bit_at_or_above(mask, n) | (ones(mask) < m)
-}
-
 pub fn code_len_impossible(v: usize, c: usize) -> bool
     ensures { λ r. ⌜ r ≡ codeLenImpossible v c ⌝ }
 {
-    (c == 0) | (c % 4 != 0) | (minus(2097152 - 1024, v) < c)
+    code_len_outside(minus(2097152 - 1024, v), c)
 }
 
 pub fn vendor_magic_missing(b: &[u8]) -> bool
@@ -120,19 +112,19 @@ pub fn vendor_mask_wrong(b: &[u8], m: u32, n: u32) -> bool
 pub fn firmware_header_cut(b: &[u8]) -> bool
     ensures { λ r. ⌜ r ≡ firmwareHeaderCut (now (b .entry)) ⌝ }
 {
-    b.len() < vendor_len(b) as usize + 1024
+    header_cut_at(b, vendor_len(b))
 }
 
 pub fn firmware_magic_missing(b: &[u8]) -> bool
     ensures { λ r. ⌜ r ≡ firmwareMagicMissing (now (b .entry)) ⌝ }
 {
-    !starts_with(firmware_magic(b), b"TRZF")
+    magic_missing_at(b, vendor_len(b), b"TRZF")
 }
 
 pub fn firmware_len_wrong(b: &[u8]) -> bool
     ensures { λ r. ⌜ r ≡ firmwareLenWrong (now (b .entry)) ⌝ }
 {
-    firmware_len(b) != 1024
+    hdr_len_wrong_at(b, vendor_len(b))
 }
 
 pub fn first_chunk_has_no_room(b: &[u8]) -> bool
@@ -144,46 +136,47 @@ pub fn first_chunk_has_no_room(b: &[u8]) -> bool
 pub fn code_len_wrong(b: &[u8]) -> bool
     ensures { λ r. ⌜ r ≡ codeLenWrong (now (b .entry)) ⌝ }
 {
-    code_len_impossible(vendor_len(b) as usize, code_len(b) as usize)
+    let v = vendor_len(b);
+    code_len_impossible(v as usize, code_len_at(b, v) as usize)
 }
 
 pub fn firmware_bytes_not_zero(b: &[u8]) -> bool
     ensures { λ r. ⌜ r ≡ firmwareBytesNotZero (now (b .entry)) ⌝ }
 {
-    let v = vendor_len(b) as usize;
-    !(all_are(part(b, v + 24, v + 32), 0) & all_are(part(b, v + 544, v + 959), 0))
+    bytes_not_zero_at(b, vendor_len(b))
 }
 
 pub fn firmware_expired(b: &[u8], time: u32) -> bool
     ensures { λ r. ⌜ r ≡ firmwareExpired (now (b .entry)) time ⌝ }
 {
-    expired(firmware_expiry(b), time)
+    expired_at(b, vendor_len(b), time)
 }
 
 pub fn firmware_mask_wrong(b: &[u8]) -> bool
     ensures { λ r. ⌜ r ≡ firmwareMaskWrong (now (b .entry)) ⌝ }
 {
-    mask_wrong(
+    mask_wrong_at(
+        b,
+        vendor_len(b),
         signers_needed(b) as u32,
         key_count(b) as u32,
-        firmware_mask(b),
     )
 }
 
 pub fn code_cut(b: &[u8]) -> bool
     ensures { λ r. ⌜ r ≡ codeCut (now (b .entry)) ⌝ }
 {
-    b.len() < image_len(b)
+    code_cut_at(b, vendor_len(b))
 }
 
 pub fn bytes_follow(b: &[u8]) -> bool
     ensures { λ r. ⌜ r ≡ bytesFollow (now (b .entry)) ⌝ }
 {
-    image_len(b) < b.len()
+    bytes_follow_at(b, vendor_len(b))
 }
 
 pub fn tail_not_erased(b: &[u8]) -> bool
     ensures { λ r. ⌜ r ≡ tailNotErased (now (b .entry)) ⌝ }
 {
-    !all_are(rest(b, image_len(b)), 255)
+    tail_not_at(b, vendor_len(b), 255)
 }

@@ -10,9 +10,9 @@ use lib.ListN.{length, getD, drop}
 use lib.Dec.{ltb}
 use borrow.Author.Tests.{le-leb}
 use Rattle.octets.specs.Read.{between, startsWith}
-use Rattle.header.specs.Layout.{TRZV, vendorLen, codeStart, imageLen, firstRoom}
+use Rattle.header.specs.Layout.{TRZV, vendorLen, codeStart, imageLen}
 use Rattle.header.specs.Steps.{bytesFollow}
-use Rattle.header.specs.Table.{Row, firstFailing, headerRows, extentRows}
+use Rattle.header.specs.Table.{firstFailing, headerRows, extentRows}
 use Rattle.header.specs.Alike.{Alike, ReadByHeaders}
 use Rattle.header.specs.declared.Inputs.{Inputs}
 use Rattle.header.specs.declared.Outcome.{Outcome}
@@ -21,23 +21,13 @@ use Rattle.header.proofs.Rows.{same-row, same-stage, stage-first}
 use Rattle.header.proofs.Facts.{headers-pass, vendor-shaped}
 use Rattle.header.proofs.Alike.{between-alike, bytes-alike, vendor-len-alike, code-len-alike, image-len-alike, code-cut-alike}
 use Rattle.header.proofs.WordApart.{word-length, word-alike, read-after-word, word-magic, word-headers}
-use Rattle.image.specs.Chunks.{hashesAt, hashTable, codeOf, chunk, chunkRow, chunkRows, hashRows}
+use Rattle.image.specs.Chunks.{hashesAt, hashTable, codeOf, hashRows}
 use Rattle.image.specs.Answer.{versionAt, imageOf, answerOf}
 use Rattle.image.specs.Check.{checkRows, checkFile}
 use Rattle.image.specs.declared.Image.{Image}
 use Rattle.image.specs.declared.Answer.{Answer}
 
 -- ---- S21 to S23, and what an acceptance tells
-
--- the chunks' rows look at v, the code and the table alone
-pub chunk-rows-same : (b c : List ℕ) → vendorLen b ≡ vendorLen c → codeOf b ≡ codeOf c → hashTable b ≡ hashTable c → (n k : ℕ) → chunkRows b k n ≡ chunkRows c k n
-unfolding chunkRows
-chunk-rows-same b c ev ec et zero k = refl
-chunk-rows-same b c ev ec et (suc n) k =
-    ap₂
-    (λ (r : Row) (rows : List Row). r ∷ rows)
-    (ap₂ (λ (l : List ℕ) (t : List (List ℕ)). chunkRow (suc k) l (getD t k [])) (ap₂ (λ (v : ℕ) (l : List ℕ). chunk (firstRoom v) k l) ev ec) et)
-    (chunk-rows-same b c ev ec et n (suc k))
 
 module _ {R N : ℕ → Bool} {b c : List ℕ} (w : Alike R N b c) where
   pub hashes-at-alike : (n at : ℕ) → ((i : ℕ) → at ≤ i → i < at + 32 * n → R i ≡ true) → hashesAt n b at ≡ hashesAt n c at
@@ -84,8 +74,7 @@ module _ {R N : ℕ → Bool} {b c : List ℕ} (w : Alike R N b c) (read : ReadB
 
     pub hash-rows-alike : firstFailing (hashRows b) ≡ firstFailing (hashRows c)
     unfolding hashRows
-    hash-rows-alike =
-        ap firstFailing (chunk-rows-same b c (vendor-len-alike w read) code-alike hash-table-alike 16 0)
+    hash-rows-alike = cc (vendor-len-alike w read, code-alike, hash-table-alike)
 
     -- S21 to S23, where S22 is answered the same
     pub later-rows-alike : (x y : Bool) → x ≡ y → firstFailing (extentRows x b ++ hashRows b) ≡ firstFailing (extentRows y c ++ hashRows c)

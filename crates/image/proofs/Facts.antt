@@ -3,14 +3,14 @@
 use Prim.Native.Nat.{ℕ, _+_, _≤_}
 use mathlib.Core.Path.{_≡_, refl, sym, ap, ap₂, _∙_}
 use mathlib.Core.List.{List}
-use mathlib.Core.Bool.{Bool, true, not}
+use mathlib.Core.Bool.{Bool}
 use native.Mathlib.Omega.{arith}
 use lib.ListN.{length, drop, length-take, length-drop}
-use borrow.Author.Tests.{ltb-false, le-ltb, not-false}
-use Rattle.octets.specs.Read.{between, allAre}
+use borrow.Author.Tests.{ltb-false, le-ltb}
+use Rattle.octets.specs.Read.{between}
 use Rattle.octets.proofs.Laws.{between-end}
 use Rattle.header.specs.Layout.{vendorLen, codeLen, codeStart, imageLen, firstRoom}
-use Rattle.header.specs.Steps.{vendorMagicMissing, codeCut, bytesFollow, tailNotErased}
+use Rattle.header.specs.Steps.{vendorMagicMissing, codeCut, bytesFollow}
 use Rattle.header.specs.Table.{firstFailing, headerRows, extentRows}
 use Rattle.header.specs.declared.Refusal.{Refusal}
 use Rattle.header.specs.declared.Inputs.{Inputs}
@@ -19,9 +19,8 @@ use Rattle.header.specs.declared.Outcome.the-variants.{Pass, Refused}
 use Rattle.header.proofs.Rows.{passes-here, ends, stage-first, stage-then, stage-passes}
 use Rattle.header.proofs.Facts.{VendorShaped, FirmwareShaped, headers-pass, vendor-shaped, firmware-shaped, extent-passes}
 use Rattle.image.specs.Chunks.{hashesOf, hashTable, codeOf, hashRows}
-use Rattle.image.specs.Answer.{versionAt, imageOf, answerOf}
+use Rattle.image.specs.Answer.{imageOf, answerOf}
 use Rattle.image.specs.Check.{checkRows, checkFile}
-use Rattle.image.specs.declared.Version.{Version}
 use Rattle.image.specs.declared.Image.{Image}
 use Rattle.image.specs.declared.Answer.{Answer}
 use Rattle.image.specs.declared.Answer.the-variants.{Accepted, Rejected}
@@ -40,12 +39,6 @@ pub answered : {x y f g : Bool} {o : Outcome} {a : Answer} (b : List ℕ) (given
     → a ≡ answerOf (firstFailing (checkRows f g b given)) (imageOf b)
 answered b given e h i j =
     j ∙ ap (λ (o : Outcome). answerOf o (imageOf b)) (i ∙ ap₂ (λ (x y : Bool). firstFailing (checkRows x y b given)) e h)
-
--- the image told, field by field
-pub image-told : {v codelen : ℕ} {version fix : Version} (b : List ℕ) → v ≡ vendorLen b → codelen ≡ codeLen b → version ≡ versionAt b (v + 16) → fix ≡ versionAt b (v + 20)
-    → record { v = v; codelen = codelen; version = version; fix = fix } ≡ imageOf b
-unfolding imageOf
-image-told b e f g h = rw (g, h, e, f)
 
 -- an acceptance: the outcome is Pass, and the image is the one told
 pub passed : (o : Outcome) (i j : Image) → answerOf o i ≡ Accepted j → o ≡ Pass
@@ -129,15 +122,6 @@ file-length magicMissing b given p =
     let l = e .held in
     let m : length b ≤ imageLen b = ltb-false (imageLen b) (length b) (e .tail) in
     omega arith
-
--- a slot that holds its image, with erased bytes behind it, passes them too, and an accepted slot has such bytes
-pub slot-extent-passes : (b : List ℕ) → imageLen b ≤ length b → allAre 255 (drop (imageLen b) b) ≡ true → firstFailing (extentRows (tailNotErased b) b) ≡ Pass
-unfolding extentRows codeCut tailNotErased
-slot-extent-passes b h e = sym (passes-here _ _ (le-ltb (length b) (imageLen b) h) (passes-here _ _ (ap not e) ends))
-
-pub slot-tail-erased : (magicMissing : Bool) (b : List ℕ) (given : Inputs) → RowsPass magicMissing (tailNotErased b) b given → allAre 255 (drop (imageLen b) b) ≡ true
-unfolding tailNotErased
-slot-tail-erased magicMissing b given p = not-false _ (extent-passes (tailNotErased b) b (p .extent) .tail)
 
 -- ---- a file that is accepted, by its headers, its length and its hashes
 

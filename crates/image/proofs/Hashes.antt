@@ -4,10 +4,10 @@ use mathlib.Core.Path.{_≡_, refl, sym, ap, ap₂, _∙_}
 use mathlib.Core.Logic.{⊎-elim}
 use mathlib.Core.List.{List, [], _∷_}
 use mathlib.Core.Bool.{Bool, true, false}
-use Prim.Native.Nat.{ℕ, zero, suc, _+_, _-_, _*_, _≤_, _<_, min}
+use Prim.Native.Nat.{ℕ, zero, suc, _+_, _-_, _*_, _≤_, _<_}
 use native.Mathlib.Numerals.{add-one}
 use native.Mathlib.Omega.{arith}
-use lib.ListN.{length, getD, take, set, replicate, length-append, length-take, length-drop, List·getD-append}
+use lib.ListN.{length, getD, take, set, replicate, length-append, List·getD-append}
 use lib.Seq.{take-suc-set, ext-getD, getD-at}
 use borrow.Author.Tests.{not-false}
 use Rattle.octets.specs.Read.{between, bytesAt, same}
@@ -31,9 +31,9 @@ pub room-later : (first k : ℕ) → (k ≡ 0 → ⊥) → 131072 ≡ roomOf fir
 room-later first zero e = absurd (e refl)
 room-later first (suc k) e = refl
 
-pub room-most : (first k : ℕ) → first ≤ 131072 → roomOf first k ≤ 131072
-room-most first zero h = h
-room-most first (suc k) h = omega arith
+pub room-most : (first k : ℕ) → roomOf first k ≤ first + 131072
+room-most first zero = omega arith
+room-most first (suc k) = omega arith
 
 pub start-more : (first k : ℕ) → chunkStart first k + roomOf first k ≡ chunkStart first (k + 1)
 unfolding chunkStart
@@ -45,19 +45,10 @@ unfolding chunkStart
 start-is first zero = omega arith
 start-is first (suc k) = let h = start-is first k in omega arith
 
-pub start-grows : (first k : ℕ) → chunkStart first k ≤ chunkStart first (suc k)
+pub start-most : (first k : ℕ) → chunkStart first k ≤ first + 131072 * k
 unfolding chunkStart
-start-grows first k = omega arith
-
-pub start-next : (first k : ℕ) → 1 ≤ first → chunkStart first k < chunkStart first (suc k)
-unfolding chunkStart
-start-next first zero h = omega arith
-start-next first (suc k) h = omega arith
-
-pub start-most : (first k : ℕ) → first ≤ 131072 → chunkStart first k ≤ 131072 * k
-unfolding chunkStart
-start-most first zero h = omega arith
-start-most first (suc k) h = let g = start-most first k h in let r = room-most first k h in omega arith
+start-most first zero = omega arith
+start-most first (suc k) = let e = start-is first k in omega arith
 
 -- ---- what a chunk holds
 
@@ -65,17 +56,10 @@ pub chunk-is : (first k : ℕ) (code : List ℕ) → between (chunkStart first k
 unfolding chunk
 chunk-is first k code = rw (add-one k)
 
-pub chunk-length : (first k : ℕ) (code : List ℕ) → length (chunk first k code) ≡ min (chunkStart first (suc k) - chunkStart first k) (length code - chunkStart first k)
-unfolding chunk between
-chunk-length first k code = simp (length-take, length-drop)
-
 -- behind the code's end chunks hold nothing, and before it they hold something
 pub chunk-empty : (first k : ℕ) (code : List ℕ) → length code ≤ chunkStart first k → chunk first k code ≡ []
 unfolding chunk
 chunk-empty first k code h = between-past (chunkStart first k) (chunkStart first (suc k)) code h
-
-pub chunk-used : (first k : ℕ) (code : List ℕ) → 1 ≤ first → chunkStart first k < length code → 1 ≤ length (chunk first k code)
-chunk-used first k code h g = let e = chunk-length first k code in let r = start-next first k h in omega arith
 
 -- ---- hashes
 
@@ -150,10 +134,6 @@ pub table-length : (b : List ℕ) → length (hashTable b) ≡ 16
 unfolding hashTable
 table-length b = hashes-at-length 16 b (vendorLen b + 32)
 
-pub table-at : (b : List ℕ) (k : ℕ) → k < 16 → getD (hashTable b) k [] ≡ bytesAt 32 b (vendorLen b + 32 + 32 * k)
-unfolding hashTable
-table-at b k h = hash-at 16 b (vendorLen b + 32) k h
-
 -- ---- S23, one chunk at a time
 
 pub wrong-unused : (bytes : List ℕ) (k : ℕ) → length bytes ≡ 0 → record { number = 15; part = 3; chunk = k } ≡ wrongHash bytes k
@@ -174,10 +154,6 @@ pub row-passed : {d : List ℕ} {x : Bool} (k : ℕ) (bytes hash : List ℕ) →
 unfolding chunkRow firstFailing
 row-passed k bytes hash e f g = rw (← e, ← f, g)
 
--- the row of chunk k + 1
-abbrev pub rowAt : List ℕ → ℕ → Row
-rowAt b k = chunkRow (suc k) (chunk (firstRoom (vendorLen b)) k (codeOf b)) (getD (hashTable b) k [])
-
 -- a row by itself, and before others
 row-passes : (r : Row) (rows : List Row) → firstFailing (r ∷ []) ≡ Pass → firstFailing (r ∷ rows) ≡ firstFailing rows
 unfolding firstFailing
@@ -189,96 +165,88 @@ unfolding firstFailing
 row-fails (row true r) rows h = h
 row-fails (row false r) rows h = cc
 
--- before chunk k + 1: at is where it starts in the code, and the answer is that of the chunks from it on
-pub record Reached (b : List ℕ) (table : List (List ℕ)) (code : List ℕ) (first at k : ℕ) : Type 0 where
+-- before chunk k + 1: from is where it starts in the code, and the answer is that of the chunks from it on
+pub record Reached (first : ℕ) (code : List ℕ) (table : List (List ℕ)) (from k : ℕ) : Type 0 where
   pub count : k ≤ 16
-  pub hashes : table ≡ hashTable b
-  pub bytes : code ≡ codeOf b
-  pub room : first ≡ firstRoom (vendorLen b)
-  pub start : at ≡ chunkStart first k
-  pub answer : firstFailing (hashRows b) ≡ firstFailing (chunkRows b k (16 - k))
+  pub start : from ≡ chunkStart first k
+  pub answer : firstFailing (chunkRows first code table 0 16) ≡ firstFailing (chunkRows first code table k (16 - k))
 
-pub reached-first : (b : List ℕ) (table : List (List ℕ)) (code : List ℕ) (first : ℕ) → table ≡ hashTable b → code ≡ codeOf b → first ≡ firstRoom (vendorLen b)
-    → Reached b table code first 0 0
-unfolding hashRows chunkStart
-reached-first b table code first et ec ef =
-    record { count = omega arith; hashes = et; bytes = ec; room = ef; start = refl; answer = refl }
+pub reached-first : (first : ℕ) (code : List ℕ) (table : List (List ℕ)) → Reached first code table 0 0
+unfolding chunkStart
+reached-first first code table = record { count = omega arith; start = refl; answer = refl }
 
-module _ {b : List ℕ} {table : List (List ℕ)} {code : List ℕ} {first at k : ℕ} (w : Reached b table code first at k) where
-  pub room-small : roomOf first k ≤ 131072
-  room-small = let e = w .room in room-most first k (omega arith)
-
-  pub start-small : at ≤ 131072 * k
-  start-small = let e = w .room in let f = w .start in let g = start-most first k (omega arith) in omega arith
+module _ {first : ℕ} {code : List ℕ} {table : List (List ℕ)} {from k : ℕ} (w : Reached first code table from k) where
+  -- where the next chunk starts is no large number
+  pub next-small : {room : ℕ} → room ≡ roomOf first k → from + room ≤ 2 * first + 131072 * 17
+  next-small e = let f = w .start in let c = w .count in let r = room-most first k in let s = start-most first k in omega arith
 
   -- all sixteen are right
-  pub reached-end : 16 ≤ k → Pass ≡ firstFailing (hashRows b)
+  pub reached-end : 16 ≤ k → Pass ≡ firstFailing (chunkRows first code table 0 16)
   unfolding chunkRows firstFailing
   reached-end h =
       let e : 16 - k ≡ 0 = omega arith in
-      sym (w .answer ∙ ap (λ (n : ℕ). firstFailing (chunkRows b k n)) e)
+      sym (w .answer ∙ ap (λ (n : ℕ). firstFailing (chunkRows first code table k n)) e)
 
   -- room is the chunk's room, p its bytes, o what its row answers
-  module _ (below : k < 16) {o : Outcome} {p : List ℕ} {room : ℕ} (er : room ≡ roomOf first k) (ep : p ≡ between at (at + room) code)
+  module _ (below : k < 16) {o : Outcome} {p : List ℕ} {room : ℕ} (er : room ≡ roomOf first k) (ep : p ≡ between from (from + room) code)
       (eo : o ≡ firstFailing (chunkRow (k + 1) p (getD table k []) ∷ [])) where
-    next-start : at + room ≡ chunkStart first (k + 1)
+    next-start : from + room ≡ chunkStart first (k + 1)
     next-start = ap₂ (λ (x y : ℕ). x + y) (w .start) er ∙ start-more first k
 
-    row-is : o ≡ firstFailing (rowAt b k ∷ [])
+    abbrev rowHere : Row
+    rowHere = chunkRow (suc k) (chunk first k code) (getD table k [])
+
+    row-is : o ≡ firstFailing (rowHere ∷ [])
     row-is =
         eo
-        ∙ rw (add-one k, w .hashes)
+        ∙ rw (add-one k)
         (ap
-        (λ (l : List ℕ). firstFailing (chunkRow (suc k) l (getD (hashTable b) k []) ∷ []))
-        (ep
-        ∙ ap₂ (λ (x y : ℕ). between x y code) (w .start) next-start
-        ∙ chunk-is first k code
-        ∙ ap₂ (λ (f : ℕ) (l : List ℕ). chunk f k l) (w .room) (w .bytes)))
+        (λ (l : List ℕ). firstFailing (chunkRow (suc k) l (getD table k []) ∷ []))
+        (ep ∙ ap₂ (λ (x y : ℕ). between x y code) (w .start) next-start ∙ chunk-is first k code))
 
-    one-left : firstFailing (hashRows b) ≡ firstFailing (rowAt b k ∷ chunkRows b (suc k) (16 - (k + 1)))
+    one-left : firstFailing (chunkRows first code table 0 16) ≡ firstFailing (rowHere ∷ chunkRows first code table (suc k) (16 - (k + 1)))
     unfolding chunkRows
     one-left =
         let e : 16 - k ≡ suc (16 - (k + 1)) = omega arith in
-        w .answer ∙ ap (λ (n : ℕ). firstFailing (chunkRows b k n)) e
+        w .answer ∙ ap (λ (n : ℕ). firstFailing (chunkRows first code table k n)) e
 
-    pub reached-next : o ≡ Pass → Reached b table code first (at + room) (k + 1)
+    pub reached-next : o ≡ Pass → Reached first code table (from + room) (k + 1)
     reached-next h =
         record {
           count = omega arith;
-          hashes = w .hashes;
-          bytes = w .bytes;
-          room = w .room;
           start = next-start;
-          answer = one-left ∙ rw (add-one k) (row-passes (rowAt b k) _ (sym row-is ∙ h));
+          answer = one-left ∙ rw (add-one k) (row-passes rowHere _ (sym row-is ∙ h));
         }
 
-    pub reached-wrong : {r : Refusal} → o ≡ Refused r → Refused r ≡ firstFailing (hashRows b)
-    reached-wrong h = sym (one-left ∙ row-fails (rowAt b k) _ (sym row-is ∙ h))
+    pub reached-wrong : {r : Refusal} → o ≡ Refused r → Refused r ≡ firstFailing (chunkRows first code table 0 16)
+    reached-wrong h = sym (one-left ∙ row-fails rowHere _ (sym row-is ∙ h))
 
 -- ---- S23 passes exactly where each hash is right
 
--- the hash of chunk k + 1 is right
-abbrev pub RightHash : List ℕ → ℕ → Type 0
-RightHash b k = hashOf (chunk (firstRoom (vendorLen b)) k (codeOf b)) ≡ getD (hashTable b) k []
+module _ (first : ℕ) (code : List ℕ) (table : List (List ℕ)) where
+  -- the hash of chunk k + 1 is right
+  abbrev pub RightHash : ℕ → Type 0
+  RightHash k = hashOf (chunk first k code) ≡ getD table k []
 
-pub chunk-rows-pass : (b : List ℕ) (k n : ℕ) → ((i : ℕ) → k ≤ i → i < k + n → RightHash b i) → firstFailing (chunkRows b k n) ≡ Pass
-unfolding chunkRows chunkRow firstFailing
-chunk-rows-pass b k zero h = refl
-chunk-rows-pass b k (suc n) h =
-    rw (h k (omega arith) (omega arith), same-self) (chunk-rows-pass b (suc k) n (λ i g l. h i (omega arith) (omega arith)))
+  pub chunk-rows-pass : (k n : ℕ) → ((i : ℕ) → k ≤ i → i < k + n → RightHash i) → firstFailing (chunkRows first code table k n) ≡ Pass
+  unfolding chunkRows chunkRow firstFailing
+  chunk-rows-pass k zero h = refl
+  chunk-rows-pass k (suc n) h =
+      rw (h k (omega arith) (omega arith), same-self) (chunk-rows-pass (suc k) n (λ i g l. h i (omega arith) (omega arith)))
 
-pub chunk-rows-right : (b : List ℕ) (k n : ℕ) → firstFailing (chunkRows b k n) ≡ Pass → (i : ℕ) → k ≤ i → i < k + n → RightHash b i
-unfolding chunkRows chunkRow
-chunk-rows-right b k zero h i g l = absurd (omega arith)
-chunk-rows-right b k (suc n) h i g l =
-    ⊎-elim
-    (λ (e : k < i). chunk-rows-right b (suc k) n (pass-tail _ _ _ h) i (omega arith) (omega arith))
-    (λ (e : i ≤ k). let q : i ≡ k = omega arith in rw q (same-equal _ _ (not-false _ (pass-head _ _ _ h))))
-    (split k i)
+  pub chunk-rows-right : (k n : ℕ) → firstFailing (chunkRows first code table k n) ≡ Pass → (i : ℕ) → k ≤ i → i < k + n → RightHash i
+  unfolding chunkRows chunkRow
+  chunk-rows-right k zero h i g l = absurd (omega arith)
+  chunk-rows-right k (suc n) h i g l =
+      ⊎-elim
+      (λ (e : k < i). chunk-rows-right (suc k) n (pass-tail _ _ _ h) i (omega arith) (omega arith))
+      (λ (e : i ≤ k). let q : i ≡ k = omega arith in rw q (same-equal _ _ (not-false _ (pass-head _ _ _ h))))
+      (split k i)
 
+-- of an image
 pub hashes-pass : (b : List ℕ) → hashTable b ≡ hashesOf 16 (firstRoom (vendorLen b)) (codeOf b) → firstFailing (hashRows b) ≡ Pass
 unfolding hashRows
-hashes-pass b e = chunk-rows-pass b 0 16 (λ i g l. sym (rw e (hash-of 16 (firstRoom (vendorLen b)) (codeOf b) i (omega arith))))
+hashes-pass b e = chunk-rows-pass _ _ _ 0 16 (λ i g l. sym (rw e (hash-of 16 (firstRoom (vendorLen b)) (codeOf b) i (omega arith))))
 
 pub hashes-right : (b : List ℕ) → firstFailing (hashRows b) ≡ Pass → hashTable b ≡ hashesOf 16 (firstRoom (vendorLen b)) (codeOf b)
 unfolding hashRows
@@ -290,4 +258,4 @@ hashes-right b h =
     (hashTable b)
     (hashesOf 16 (firstRoom (vendorLen b)) (codeOf b))
     (l ∙ sym m)
-    (λ i g. sym (chunk-rows-right b 0 16 h i (omega arith) (omega arith)) ∙ sym (hash-of 16 (firstRoom (vendorLen b)) (codeOf b) i (omega arith)))
+    (λ i g. sym (chunk-rows-right _ _ _ 0 16 h i (omega arith) (omega arith)) ∙ sym (hash-of 16 (firstRoom (vendorLen b)) (codeOf b) i (omega arith)))

@@ -30,7 +30,7 @@ slot-told b given i h = told (firstFailing (checkRows (vendorMagicMissing b) (ta
 -- ---- the parts
 
 -- n bytes from a on
-part-taken : (b : List ℕ) (a n s e : ℕ) → s ≡ a → e ≡ a + n → between s e b ≡ take n (drop a b)
+pub part-taken : (b : List ℕ) (a n s e : ℕ) → s ≡ a → e ≡ a + n → between s e b ≡ take n (drop a b)
 unfolding between
 part-taken b a n s e h g = let d : e - s ≡ n = omega arith in rw (d, h)
 

@@ -3,7 +3,8 @@
 use Prim.Native.Nat.{ℕ, _+_}
 use mathlib.Core.List.{List, [], _∷_, _++_}
 use lib.ListN.{getD}
-use Rattle.header.specs.Layout.{vendorLen, codeLen}
+use Rattle.code_header.specs.Layout.{codeLenAt}
+use Rattle.header.specs.Layout.{vendorLen}
 use Rattle.header.specs.declared.Outcome.{Outcome}
 use Rattle.header.specs.declared.Outcome.the-variants.{Pass, Refused}
 use Rattle.image.specs.declared.Version.{Version}
@@ -34,15 +35,13 @@ told (Rejected r) = r .number ∷ r .part ∷ r .chunk ∷ []
 abbrev pub versionAt : List ℕ → ℕ → Version
 versionAt b at = record { major = getD b at 0; minor = getD b (at + 1) 0; patch = getD b (at + 2) 0; build = getD b (at + 3) 0 }
 
--- what an acceptance tells: v, codelen, and the firmware header's two versions
+-- what an acceptance tells: v; and codelen and the two versions of the header that starts at an offset
+abbrev pub imageAt : List ℕ → ℕ → ℕ → Image
+imageAt b v at = record { v = v; codelen = codeLenAt b at; version = versionAt b (at + 16); fix = versionAt b (at + 20) }
+
+-- of an image with a vendor header
 unfoldable pub imageOf : List ℕ → Image
-imageOf b =
-    record {
-      v = vendorLen b;
-      codelen = codeLen b;
-      version = versionAt b (vendorLen b + 16);
-      fix = versionAt b (vendorLen b + 20);
-    }
+imageOf b = imageAt b (vendorLen b) (vendorLen b)
 
 -- an outcome of all steps as the answer
 abbrev pub answerOf : Outcome → Image → Answer

@@ -10,7 +10,7 @@ use Rattle.blake2s.specs.Rfc7693.{blake2sOf}
 use Rattle.header.specs.Layout.{vendorLen, firstRoom}
 use Rattle.header.specs.Table.{Row, row}
 use Rattle.header.specs.declared.Refusal.{Refusal}
-use Rattle.image.specs.Areas.{codeSpan}
+use Rattle.image.specs.Areas.{codeSpanAt}
 
 -- ---- chunks of the code, by the room that chunk 1 has
 
@@ -45,14 +45,23 @@ unfoldable pub hashesAt : ℕ → List ℕ → ℕ → List (List ℕ)
 hashesAt zero b at = []
 hashesAt (suc n) b at = hashesAt n b at ++ (bytesAt 32 b (at + 32 * n) ∷ [])
 
--- the sixteen hashes of the firmware header
+-- the sixteen hashes of a header that starts at an offset
+abbrev pub hashTableAt : List ℕ → ℕ → List (List ℕ)
+hashTableAt b at = hashesAt 16 b (at + 32)
+
+-- those of the firmware header
 unfoldable pub hashTable : List ℕ → List (List ℕ)
-hashTable b = hashesAt 16 b (vendorLen b + 32)
+hashTable b = hashTableAt b (vendorLen b)
 
 -- ---- S23
 
+-- the code behind a header that starts at an offset
+abbrev pub codeAt : List ℕ → ℕ → List ℕ
+codeAt b at = spanOf (codeSpanAt b at) b
+
+-- that of an image
 abbrev pub codeOf : List ℕ → List ℕ
-codeOf b = spanOf (codeSpan b) b
+codeOf b = codeAt b (vendorLen b)
 
 -- 14 if the chunk is used, 15 if it holds nothing; part 3, and the chunk
 abbrev pub wrongHash : List ℕ → ℕ → Refusal
@@ -63,11 +72,11 @@ wrongHash (x ∷ xs) k = record { number = 14; part = 3; chunk = k }
 unfoldable pub chunkRow : ℕ → List ℕ → List ℕ → Row
 chunkRow k bytes hash = row (not (same (hashOf bytes) hash)) (wrongHash bytes k)
 
--- a row for each of the n chunks from k on
-unfoldable pub chunkRows : List ℕ → ℕ → ℕ → List Row
-chunkRows b k zero = []
-chunkRows b k (suc n) = chunkRow (suc k) (chunk (firstRoom (vendorLen b)) k (codeOf b)) (getD (hashTable b) k []) ∷ chunkRows b (suc k) n
+-- a row for each of the n chunks from k on, by the first chunk's room, the code and the table
+unfoldable pub chunkRows : ℕ → List ℕ → List (List ℕ) → ℕ → ℕ → List Row
+chunkRows first code table k zero = []
+chunkRows first code table k (suc n) = chunkRow (suc k) (chunk first k code) (getD table k []) ∷ chunkRows first code table (suc k) n
 
 -- S23: the lowest chunk whose hash is wrong
 unfoldable pub hashRows : List ℕ → List Row
-hashRows b = chunkRows b 0 16
+hashRows b = chunkRows (firstRoom (vendorLen b)) (codeOf b) (hashTable b) 0 16

@@ -2,7 +2,7 @@
 //
 // The chunks are told by the room that the first one has, which is all that differs between one
 // family of images and another. The writer makes its hashes with the same calls.
-use crate::areas::code_span;
+use crate::areas::code_span_at;
 use blake2s::blake2s;
 use header::Outcome;
 use header::Refusal;
@@ -15,7 +15,7 @@ use octets::span_of;
 ghost use mathlib.Core.Path.{_≡_};
 ghost use mathlib.Core.List.{[], _∷_};
 ghost use Rattle.header.specs.Table.{firstFailing};
-ghost use Rattle.image.specs.Chunks.{roomOf, hashOf, hashTable, wrongHash, chunkRow, hashRows};
+ghost use Rattle.image.specs.Chunks.{roomOf, hashOf, hashTableAt, codeAt, wrongHash, chunkRow, chunkRows, hashRows};
 
 // The room of the chunk at k.
 pub fn room_of(first: usize, k: usize) -> usize
@@ -34,11 +34,11 @@ pub fn hash_of(bytes: &[u8]) -> [u8; 32]
     blake2s(bytes)
 }
 
-// The sixteen hashes of the firmware header.
-pub fn hash_table(b: &[u8]) -> [[u8; 32]; 16]
-    ensures { λ r. ⌜ r ≡ hashTable (now (b .entry)) ⌝ }
+// The sixteen hashes of a header that starts at an offset.
+fn hash_table_at(b: &[u8], at: u32) -> [[u8; 32]; 16]
+    ensures { λ r. ⌜ r ≡ hashTableAt (now (b .entry)) at ⌝ }
 {
-    let from = vendor_len(b) as usize + 32;
+    let from = at as usize + 32;
     let mut t: [[u8; 32]; 16] = [[0; 32]; 16];
     let mut k: usize = 0;
     while k < 16 {
@@ -71,24 +71,32 @@ fn chunk_row(k: u32, bytes: &[u8], hash: [u8; 32]) -> Outcome
     Outcome::Refused(wrong_hash(bytes, k))
 }
 
-// S23.
-pub fn hash_rows(b: &[u8]) -> Outcome
-    ensures { λ r. ⌜ r ≡ firstFailing (hashRows (now (b .entry))) ⌝ }
+// S23, of the code behind a header that starts at an offset, by the room that the first chunk has.
+pub fn chunk_rows_at(b: &[u8], at: u32, first: u32) -> Outcome
+    ensures { λ r. ⌜ r ≡ firstFailing (chunkRows first (codeAt (now (b .entry)) at) (hashTableAt (now (b .entry)) at) 0 16) ⌝ }
 {
-    let table = hash_table(b);
-    let code = span_of(b, code_span(b));
-    let first = first_room(vendor_len(b) as usize);
-    let mut at: usize = 0;
+    let table = hash_table_at(b, at);
+    let code = span_of(b, code_span_at(b, at));
+    let room = first as usize;
+    let mut from: usize = 0;
     let mut k: usize = 0;
     while k < 16 {
-        let next = at + room_of(first, k);
+        let next = from + room_of(room, k);
         let hash = table[k];
-        let found = chunk_row((k + 1) as u32, part(code, at, next), hash);
+        let found = chunk_row((k + 1) as u32, part(code, from, next), hash);
         if let Outcome::Refused(r) = found {
             return Outcome::Refused(r);
         }
-        at = next;
+        from = next;
         k += 1;
     }
     Outcome::Pass
+}
+
+// S23, of an image.
+pub fn hash_rows(b: &[u8]) -> Outcome
+    ensures { λ r. ⌜ r ≡ firstFailing (hashRows (now (b .entry))) ⌝ }
+{
+    let v = vendor_len(b);
+    chunk_rows_at(b, v, first_room(v as usize) as u32)
 }

@@ -12,10 +12,10 @@ use areas::code_span;
 use areas::picture_span;
 use areas::string_span;
 use chunks::hash_rows;
+use code_header::layout::code_len_at;
 use header::Inputs;
 use header::Outcome;
 use header::Refusal;
-use header::layout::code_len;
 use header::layout::vendor_len;
 use header::steps::bytes_follow;
 use header::steps::tail_not_erased;
@@ -33,7 +33,7 @@ ghost use lib.ListN.{drop};
 ghost use Rattle.octets.specs.Read.{spanOf};
 ghost use Rattle.header.specs.Table.{firstFailing};
 ghost use Rattle.image.specs.Chunks.{codeOf};
-ghost use Rattle.image.specs.Answer.{versionAt, imageOf, answerOf, told};
+ghost use Rattle.image.specs.Answer.{versionAt, imageAt, imageOf, answerOf, told};
 ghost use Rattle.image.specs.Check.{checkRows, checkFile, checkSlot};
 ghost use Rattle.image.specs.Parts.{stringOf, pictureOf, whenAccepted};
 
@@ -72,16 +72,26 @@ fn version_at(b: &[u8], at: usize) -> Version
     }
 }
 
-fn image_of(b: &[u8]) -> Image
-    ensures { λ r. ⌜ r ≡ imageOf (now (b .entry)) ⌝ }
+fn image_at(b: &[u8], v: u32, at: u32) -> Image
+    ensures { λ r. ⌜ r ≡ imageAt (now (b .entry)) v at ⌝ }
 {
-    let v = vendor_len(b);
-    let at = v as usize;
+    let from = at as usize;
     Image {
         v,
-        codelen: code_len(b),
-        version: version_at(b, at + 16),
-        fix: version_at(b, at + 20),
+        codelen: code_len_at(b, at),
+        version: version_at(b, from + 16),
+        fix: version_at(b, from + 20),
+    }
+}
+
+// The outcome of all steps as the answer. An acceptance tells v, and what the header says that starts
+// at an offset.
+pub fn answer_at(outcome: Outcome, b: &[u8], v: u32, at: u32) -> Answer
+    ensures { λ r. ⌜ r ≡ answerOf outcome (imageAt (now (b .entry)) v at) ⌝ }
+{
+    match outcome {
+        Outcome::Refused(r) => Answer::Rejected(r),
+        Outcome::Pass => Answer::Accepted(image_at(b, v, at)),
     }
 }
 
@@ -103,10 +113,8 @@ fn check_rows(magic_missing: bool, tail_wrong: bool, b: &[u8], given: Inputs) ->
 fn answer_of(outcome: Outcome, b: &[u8]) -> Answer
     ensures { λ r. ⌜ r ≡ answerOf outcome (imageOf (now (b .entry))) ⌝ }
 {
-    match outcome {
-        Outcome::Refused(r) => Answer::Rejected(r),
-        Outcome::Pass => Answer::Accepted(image_of(b)),
-    }
+    let v = vendor_len(b);
+    answer_at(outcome, b, v, v)
 }
 
 // The check of a file.
@@ -137,7 +145,7 @@ pub fn check_file_word_apart(first: [u8; 4], b: &[u8], given: Inputs) -> Answer
 }
 
 // The bytes of a span after an acceptance, and nothing after a refusal.
-fn area(b: &[u8], answer: Answer, span: Span) -> &[u8]
+pub fn accepted_part(b: &[u8], answer: Answer, span: Span) -> &[u8]
     ensures { λ r. ⌜ now r ≡ whenAccepted answer (spanOf span (now (b .entry))) ⌝ }
 {
     match answer {
@@ -150,19 +158,19 @@ fn area(b: &[u8], answer: Answer, span: Span) -> &[u8]
 pub fn string(b: &[u8], answer: Answer) -> &[u8]
     ensures { λ r. ⌜ now r ≡ whenAccepted answer (stringOf (now (b .entry))) ⌝ }
 {
-    area(b, answer, string_span(b))
+    accepted_part(b, answer, string_span(b))
 }
 
 // The picture area in the checked bytes, and nothing after a refusal.
 pub fn picture(b: &[u8], answer: Answer) -> &[u8]
     ensures { λ r. ⌜ now r ≡ whenAccepted answer (pictureOf (now (b .entry))) ⌝ }
 {
-    area(b, answer, picture_span(b))
+    accepted_part(b, answer, picture_span(b))
 }
 
 // The code in the checked bytes, and nothing after a refusal.
 pub fn code(b: &[u8], answer: Answer) -> &[u8]
     ensures { λ r. ⌜ now r ≡ whenAccepted answer (codeOf (now (b .entry))) ⌝ }
 {
-    area(b, answer, code_span(b))
+    accepted_part(b, answer, code_span(b))
 }

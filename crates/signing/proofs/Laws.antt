@@ -31,6 +31,10 @@ pub answers : {x m : Bool} {o p : Outcome} {d : List ℕ} (rows : Bool → List 
     → record { outcome = o; digest = d } ≡ answered (firstFailing (rows m b)) e
 answers rows b e magic first found h = rw (← magic, ← first, found) h
 
+-- the same of an outcome that is given
+pub answers-given : {o p : Outcome} {d : List ℕ} (e : List ℕ) → o ≡ p → record { outcome = p; digest = d } ≡ answered p e → record { outcome = o; digest = d } ≡ answered o e
+answers-given e found h = rw found h
+
 -- a call that promises its reply promises what the outcome tells
 pub tells : {x y : Digest} → x ≡ y → (x ≡ y) × (told (x .outcome) ≡ told (y .outcome))
 tells e = told-too (λ (x : Digest). told (x .outcome)) e

@@ -26,9 +26,13 @@ firmwareRows magicMissing b = step magicMissing 1 1 ∷ (vendorShape b ++ firmwa
 unfoldable pub signedVendor : List ℕ → List ℕ
 signedVendor b = zeroTailed (between 0 (maskAt (vendorLen b)) b)
 
--- the 1,024 bytes of the firmware header, the last 65 as zeros
+-- the 1,024 bytes of a header that starts at an offset, the last 65 as zeros
+abbrev pub signedAt : List ℕ → ℕ → List ℕ
+signedAt b at = zeroTailed (between at (at + 959) b)
+
+-- those of the firmware header
 unfoldable pub signedFirmware : List ℕ → List ℕ
-signedFirmware b = zeroTailed (between (vendorLen b) (vendorLen b + 959) b)
+signedFirmware b = signedAt b (vendorLen b)
 
 -- the digest where the rows pass. After a refusal there is none, and zeros stand in its place
 abbrev pub answered : Outcome → List ℕ → Digest

@@ -29,7 +29,7 @@ ghost use Rattle.octets.specs.Read.{between};
 ghost use Rattle.header.specs.Layout.{vendorLen, maskAt};
 ghost use Rattle.header.specs.Table.{firstFailing};
 ghost use Rattle.header.specs.Outcome.{told};
-ghost use Rattle.signing.specs.Digests.{vendorRows, firmwareRows, signedVendor, signedFirmware, answered, vendorDigest, firmwareDigest};
+ghost use Rattle.signing.specs.Digests.{vendorRows, firmwareRows, signedVendor, signedAt, signedFirmware, answered, vendorDigest, firmwareDigest};
 
 // Pass and the digest, or the refusal and zeros.
 pub struct Digest {
@@ -71,11 +71,28 @@ fn vendor_header_digest_word_apart(first: [u8; 4], b: &[u8]) -> [u8; 32]
     blake2s_word_apart(first, part(b, 4, minus(vendor_len(b) as usize, 65)))
 }
 
-fn firmware_header_digest(b: &[u8]) -> [u8; 32]
-    ensures { λ r. ⌜ r ≡ blake2sOf (signedFirmware (now (b .entry))) ⌝ }
+fn header_digest_at(b: &[u8], at: u32) -> [u8; 32]
+    ensures { λ r. ⌜ r ≡ blake2sOf (signedAt (now (b .entry)) at) ⌝ }
 {
-    let v = vendor_len(b) as usize;
-    blake2s_zero_tailed(part(b, v, v + 959))
+    let from = at as usize;
+    blake2s_zero_tailed(part(b, from, from + 959))
+}
+
+// The digest of the header of 1,024 bytes that starts at an offset, where the outcome of its rows is
+// Pass.
+pub fn answer_at(outcome: Outcome, b: &[u8], at: u32) -> Digest
+    ensures { λ r. ⌜ r ≡ answered outcome (blake2sOf (signedAt (now (b .entry)) at)) ⌝ }
+{
+    match outcome {
+        Outcome::Refused(_) => Digest {
+            outcome,
+            digest: [0; 32],
+        },
+        Outcome::Pass => {
+            let digest = header_digest_at(b, at);
+            Digest { outcome, digest }
+        }
+    }
 }
 
 // The digest to be signed of the vendor header.
@@ -101,16 +118,7 @@ fn firmware_answer(magic_missing: bool, b: &[u8]) -> Digest
     ensures { λ r. ⌜ r ≡ answered (firstFailing (firmwareRows «magic_missing» (now (b .entry)))) (blake2sOf (signedFirmware (now (b .entry)))) ⌝ }
 {
     let outcome = firmware_rows(magic_missing, b);
-    match outcome {
-        Outcome::Refused(_) => Digest {
-            outcome,
-            digest: [0; 32],
-        },
-        Outcome::Pass => {
-            let digest = firmware_header_digest(b);
-            Digest { outcome, digest }
-        }
-    }
+    answer_at(outcome, b, vendor_len(b))
 }
 
 // The digest to be signed of the firmware header.

@@ -1,2 +1,3 @@
 -- The laws that the proofs of thimmorel cite.
 pub mod Laws
+pub mod Told

@@ -13,6 +13,7 @@ use Rattle.octets.specs.Put.{Put}
 use Rattle.octets.specs.Rounding.{roundUp}
 use Rattle.octets.proofs.Rounding.{rounds-up}
 use Rattle.octets.proofs.Splice.{splice-start, length-zeros}
+use Rattle.octets.proofs.Laws.{or-left, or-right}
 use Rattle.header.specs.Layout.{pictureStart}
 use Rattle.header.specs.Steps.{keysImpossible}
 use Rattle.header.specs.Table.{firstFailing}
@@ -20,7 +21,7 @@ use Rattle.header.specs.declared.Refusal.{Refusal}
 use Rattle.header.specs.declared.Outcome.{Outcome}
 use Rattle.header.specs.declared.Outcome.the-variants.{Pass, Refused}
 use Rattle.header.proofs.Rows.{pass-head, pass-tail}
-use Rattle.header.proofs.Facts.{or-left, or-right, LengthPossible, length-possible, CodeLenPossible, code-len-possible}
+use Rattle.header.proofs.Facts.{LengthPossible, length-possible, CodeLenPossible, code-len-possible}
 use Rattle.writer.specs.Writers.{answered, output}
 use Rattle.writer.specs.Vendor.{vendorSize, vendorHead, vendorFront, vendorRefusals}
 use Rattle.writer.specs.Firmware.{firmwareRefusals}

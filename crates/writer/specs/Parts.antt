@@ -7,7 +7,8 @@ use mathlib.Core.Bool.{false}
 use lib.ListN.{length, getD, take}
 use Rattle.octets.specs.Read.{between}
 use Rattle.header.specs.Layout.{vendorLen, vendorExpiry, signersNeeded, keyCount, vtrust, stringLenAt, vendorMask, firmwareExpiry, firmwareMask}
-use Rattle.header.specs.Steps.{keysImpossible, expired, maskWrong}
+use Rattle.code_header.specs.Tests.{expired, maskWrong}
+use Rattle.header.specs.Steps.{keysImpossible}
 use Rattle.header.specs.declared.Inputs.{Inputs}
 use Rattle.image.specs.Answer.{versionAt}
 use Rattle.image.specs.Chunks.{codeOf}

@@ -1,15 +1,14 @@
--- `image::answer_of` meets its contract: the definition goes by the same two cases.
+-- `image::answer_of` meets its contract: `answer_at` is asked where `vendor_len` says that the firmware header starts.
 use borrow.Author.Needs.{needs}
-use Rattle.image.proofs.Facts.{rejected, accepted}
+use Rattle.image.specs.Answer.{imageOf}
 use Rattle.image.proofs.answer_of.Statement.{statement}
 use Rattle.image.proofs.answer_of.Tie as tie
 
 pub answer-of-spec : {M : Type 1} → statement M
+unfolding imageOf
 answer-of-spec =
     tie.close
     (tie.spec
-    (λ c. search needs)
-    (λ c. search needs)
     (λ c κs. search needs)
-    (λ c. search (rejected))
-    (λ c. search (accepted)))
+    (λ c κs. search needs)
+    (λ c. cc))

@@ -1,4 +1,4 @@
--- `image::string` meets its contract: `area` promises the bytes of the span.
+-- `image::string` meets its contract: `accepted_part` promises the bytes of the span.
 use denote.Ref.{now}
 use mathlib.Core.Path.{ap, _∙_}
 use borrow.Author.Needs.{needs}
@@ -16,4 +16,4 @@ string-spec =
     (λ c κs. search needs)
     (λ c.
     let a = c .before .before .before .args in
-    c .area .ensures ∙ ap (λ (x : Span). whenAccepted (a .answer) (spanOf x (now (a .b)))) (c .before .string-span .ensures)))
+    c .accepted-part .ensures ∙ ap (λ (x : Span). whenAccepted (a .answer) (spanOf x (now (a .b)))) (c .before .string-span .ensures)))

@@ -26,7 +26,7 @@ add-next : tie.Need-add-next Inv-loop μ-loop
 add-next c =
     let l = c .before .before in
     let s = l .before .before in
-    omega (arith, c .room-of .ensures, room-most (s .args .first) (l .loop .k) (s .pre), start-most (s .args .first) (l .loop .k) (s .pre))
+    omega (arith, c .room-of .ensures, s .pre, room-most (s .args .first) (l .loop .k), start-most (s .args .first) (l .loop .k))
 
 loop-again : tie.Need-loop-again Inv-loop μ-loop
 loop-again c =

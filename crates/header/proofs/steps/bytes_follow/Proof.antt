@@ -1,4 +1,4 @@
--- `header::steps::bytes_follow` meets its contract: the length is compared with what `image_len` promises.
+-- `header::steps::bytes_follow` meets its contract: `bytes_follow_at` is asked where `vendor_len` says that the firmware header starts.
 use borrow.Author.Needs.{needs}
 use Rattle.header.specs.Steps.{bytesFollow}
 use Rattle.header.proofs.steps.bytes_follow.Statement.{statement}
@@ -9,5 +9,6 @@ unfolding bytesFollow
 bytes-follow-spec =
     tie.close
     (tie.spec
+    (λ c κs. search needs)
     (λ c κs. search needs)
     (λ c. cc))

@@ -1,4 +1,4 @@
--- `header::steps::code_cut` meets its contract: the length is compared with what `image_len` promises.
+-- `header::steps::code_cut` meets its contract: `code_cut_at` is asked where `vendor_len` says that the firmware header starts.
 use borrow.Author.Needs.{needs}
 use Rattle.header.specs.Steps.{codeCut}
 use Rattle.header.proofs.steps.code_cut.Statement.{statement}
@@ -9,5 +9,6 @@ unfolding codeCut
 code-cut-spec =
     tie.close
     (tie.spec
+    (λ c κs. search needs)
     (λ c κs. search needs)
     (λ c. cc))

@@ -1,4 +1,4 @@
--- `header::steps::code_len_impossible` meets its contract: its three tests are the definition's, and `minus` promises the limit.
+-- `header::steps::code_len_impossible` meets its contract: `code_len_outside` is asked with the limit that `minus` promises.
 use borrow.Author.Needs.{needs}
 use Rattle.header.proofs.steps.code_len_impossible.Statement.{statement}
 use Rattle.header.proofs.steps.code_len_impossible.Tie as tie
@@ -9,4 +9,5 @@ code-len-impossible-spec =
     (tie.spec
     (λ c. search needs)
     (λ c κs. search needs)
-    (λ c. rw (c .minus .ensures)))
+    (λ c κs. search needs)
+    (λ c. cc))

@@ -1,4 +1,4 @@
--- `header::steps::firmware_expired` meets its contract: it is `expired` of the expiry that is promised.
+-- `header::steps::firmware_expired` meets its contract: `expired_at` is asked where `vendor_len` says that the firmware header starts.
 use borrow.Author.Needs.{needs}
 use Rattle.header.specs.Steps.{firmwareExpired}
 use Rattle.header.proofs.steps.firmware_expired.Statement.{statement}

@@ -1,4 +1,4 @@
--- `header::steps::firmware_header_cut` meets its contract: the length is compared with 1,024 more than `vendor_len` promises.
+-- `header::steps::firmware_header_cut` meets its contract: `header_cut_at` is asked where `vendor_len` says that the firmware header starts.
 use borrow.Author.Needs.{needs}
 use Rattle.header.specs.Steps.{firmwareHeaderCut}
 use Rattle.header.proofs.steps.firmware_header_cut.Statement.{statement}
@@ -10,6 +10,5 @@ firmware-header-cut-spec =
     tie.close
     (tie.spec
     (λ c κs. search needs)
-    (λ c. search needs)
-    (λ c. search needs)
+    (λ c κs. search needs)
     (λ c. cc))

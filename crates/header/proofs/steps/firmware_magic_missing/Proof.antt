@@ -1,4 +1,4 @@
--- `header::steps::firmware_magic_missing` meets its contract: `starts_with` is asked of the 4 bytes that `firmware_magic` promises.
+-- `header::steps::firmware_magic_missing` meets its contract: `magic_missing_at` is asked of the same four letters, where `vendor_len` says that the firmware header starts.
 use borrow.Author.Needs.{needs}
 use Rattle.header.specs.Steps.{firmwareMagicMissing}
 use Rattle.header.proofs.steps.firmware_magic_missing.Statement.{statement}

@@ -1,4 +1,4 @@
--- `header::steps::firmware_mask_wrong` meets its contract: it is `mask_wrong` of the vendor's counts and the mask, as promised.
+-- `header::steps::firmware_mask_wrong` meets its contract: `mask_wrong_at` is asked with the vendor's counts, where `vendor_len` says that the firmware header starts.
 use borrow.Author.Needs.{needs}
 use Rattle.header.specs.Steps.{firmwareMaskWrong}
 use Rattle.header.proofs.steps.firmware_mask_wrong.Statement.{statement}
@@ -10,9 +10,9 @@ firmware-mask-wrong-spec =
     tie.close
     (tie.spec
     (λ c κs. search needs)
-    (λ c. search needs)
     (λ c κs. search needs)
     (λ c. search needs)
     (λ c κs. search needs)
+    (λ c. search needs)
     (λ c κs. search needs)
     (λ c. cc))

@@ -1,4 +1,4 @@
--- `header::steps::tail_not_erased` meets its contract: `rest` promises the bytes behind the image, and `all_are` whether they are 255.
+-- `header::steps::tail_not_erased` meets its contract: `tail_not_at` is asked where `vendor_len` says that the firmware header starts.
 use borrow.Author.Needs.{needs}
 use Rattle.header.specs.Steps.{tailNotErased}
 use Rattle.header.proofs.steps.tail_not_erased.Statement.{statement}
@@ -11,5 +11,4 @@ tail-not-erased-spec =
     (tie.spec
     (λ c κs. search needs)
     (λ c κs. search needs)
-    (λ c κs. search needs)
-    (λ c. rw (c .all-are .ensures, c .before .rest .ensures, c .before .before .image-len .ensures)))
+    (λ c. cc))

@@ -1,10 +1,7 @@
--- `image::areas::code_span` meets its contract: the calls promise where the area starts and ends.
+-- `image::areas::code_span` meets its contract: `code_span_at` is asked where `vendor_len` says that the firmware header starts.
 use borrow.Author.Needs.{needs}
 use Rattle.image.proofs.areas.code_span.Statement.{statement}
 use Rattle.image.proofs.areas.code_span.Tie as tie
-
-returns : tie.Need-returns
-returns c = rw (c .image-len .ensures, c .before .code-start .ensures)
 
 pub code-span-spec : {M : Type 1} → statement M
 code-span-spec =
@@ -12,4 +9,4 @@ code-span-spec =
     (tie.spec
     (λ c κs. search needs)
     (λ c κs. search needs)
-    returns)
+    (λ c. cc))

@@ -1,23 +1,18 @@
--- What the calls ensure: the inputs that the words hold, the answer of the check, and what `tell` leaves.
+-- `thimmorel::check::thimmorel_check_slot` meets its contract: the inputs that the words hold, the answer of the check, and what `tell` leaves are what the calls promise.
 use denote.Ref.{now}
 use mathlib.Core.Path.{ap, _∙_}
 use Rattle.header.specs.declared.Inputs.{Inputs}
-use Rattle.image.specs.Answer.{numberOf}
 use Rattle.image.specs.Check.{checkSlot}
-use Rattle.image.specs.declared.Answer.{Answer}
-use Rattle.abi.specs.Answers.{answerWords, imageWords}
 use borrow.Author.Needs.{needs}
+use Rattle.thimmorel.proofs.Told.{check-told}
 use Rattle.thimmorel.proofs.check.thimmorel_check_slot.Statement.{statement}
 use Rattle.thimmorel.proofs.check.thimmorel_check_slot.Tie as tie
 
 returns : tie.Need-returns
 returns c =
     let k = c .before .before .before in
-    let i = k .before in
-    let a = i .before .before .before .args in
-    let e = k .check-slot .ensures .0 ∙ ap (λ (x : Inputs). checkSlot (now (a .bytes)) x) (i .inputs-of .ensures) in
-    let t = c .tell .ensures in
-    (t .0 ∙ ap numberOf e, (t .1 .0 ∙ ap answerWords e, t .1 .1 ∙ ap (λ (x : Answer). imageWords x (now (a .image))) e))
+    let a = k .before .before .before .before .args in
+    check-told (now (a .image)) (k .check-slot .ensures .0 ∙ ap (λ (x : Inputs). checkSlot (now (a .bytes)) x) (k .before .inputs-of .ensures)) (c .tell .ensures)
 
 pub thimmorel-check-slot-spec : {M : Type 1} → statement M
 thimmorel-check-slot-spec =

@@ -1,0 +1,3 @@
+-- What the contracts of code_header cite.
+pub mod Layout
+pub mod Tests
