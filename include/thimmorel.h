@@ -21,7 +21,8 @@ extern "C" {
  * # Thimmorel
  *
  * The library is for a pocket signer with one flash slot. It checks a firmware image, in a file or
- * in the slot; it writes the two headers of an image; and it installs an image into the slot. Its
+ * in the slot; it writes the two headers of an image; and it installs an image into the slot. It
+ * also checks a loader, on a memory card or in the internal area, and chooses the one to run. Its
  * digest is BLAKE2s (RFC 7693) with no key and 32 bytes of output. It does not verify signatures: a
  * chip does, and its verdicts are inputs to a check.
  *
@@ -30,7 +31,8 @@ extern "C" {
  * `rt staticlib thimmorel` writes `target/staticlib/libthimmorel.a`, for x86-64 Linux. A program
  * includes this header and links the archive, which needs `memcpy` and `memset` of the C library
  * and nothing else. The header has no type whose size depends on the machine: the length of a slice
- * and the places in it are `uint64_t`, and the numbers in structs are `uint32_t`.
+ * and the places in it are `uint64_t`, and so are the numbers in a struct with places; all other
+ * numbers are `uint32_t`.
  *
  * ## Memory
  *
@@ -55,9 +57,9 @@ extern "C" {
  * ## Answers
  *
  * A call that can refuse returns a number: 0 is success, and `enum thimmorel_error` lists the rest.
- * Some calls tell more than a number: where a check found the fault (`struct thimmorel_answer`), or
- * which operation of the flash is next (`struct thimmorel_operation`). These are always written,
- * and are part of the answer.
+ * Some calls tell more than a number: where a check found the fault (`struct thimmorel_answer`),
+ * which operation of the flash is next (`struct thimmorel_operation`), or which loader to run
+ * (`struct thimmorel_loader`). These are always written, and are part of the answer.
  *
  * Everything else that a call writes is an output. After a refused call every slot byte, the record
  * and every output are as they were, with two exceptions: a refused thimmorel_begin() writes its
@@ -106,12 +108,15 @@ extern "C" {
  * Code fills the chunks in order. Chunk 1 has room for 131,072 - 1,024 - v bytes, chunks 2 to 16
  * for 131,072 each; the last chunk in use may be partly filled. Hash k is the digest of the code in
  * chunk k, or all zero if chunk k holds none.
+ *
+ * The loader, which is the second stage of the boot code, has an image of its own, without a vendor
+ * header. See "Loaders" below.
  */
 
 /** The version of this interface. */
-#define THIMMOREL_VERSION "0.2.0"
+#define THIMMOREL_VERSION "0.3.0"
 #define THIMMOREL_VERSION_MAJOR 0
-#define THIMMOREL_VERSION_MINOR 2
+#define THIMMOREL_VERSION_MINOR 3
 #define THIMMOREL_VERSION_PATCH 0
 
 /** Sizes in bytes. */
@@ -121,6 +126,9 @@ extern "C" {
 #define THIMMOREL_FIRMWARE_HEADER_SIZE 1024u
 #define THIMMOREL_VENDOR_HEADER_MIN 512u
 #define THIMMOREL_VENDOR_HEADER_MAX 65536u
+#define THIMMOREL_LOADER_HEADER_SIZE 1024u
+#define THIMMOREL_LOADER_CODE_MAX 130048u
+#define THIMMOREL_LOADER_MAX 131072u
 #define THIMMOREL_PAGE_SIZE 4096u
 #define THIMMOREL_WORD_SIZE 4u
 #define THIMMOREL_SLOT_MAX 2097152u
@@ -138,7 +146,7 @@ extern "C" {
 enum thimmorel_error {
 	/** Success. */
 	THIMMOREL_OK = 0,
-	/** The bytes do not start with `TRZV`. */
+	/** The bytes do not start with `TRZV`, or for a loader with `TRZB`. */
 	THIMMOREL_ERROR_VENDOR_MAGIC = 1,
 	/** The bytes end before this part of the image does. */
 	THIMMOREL_ERROR_TOO_SHORT = 2,
@@ -158,13 +166,14 @@ enum thimmorel_error {
 	THIMMOREL_ERROR_VERDICT = 9,
 	/** The firmware header does not start with `TRZF`. */
 	THIMMOREL_ERROR_FIRMWARE_MAGIC = 10,
-	/** The firmware header does not give its length as 1,024. */
+	/** The firmware header, or a loader's, does not give its length as 1,024. */
 	THIMMOREL_ERROR_FIRMWARE_LENGTH = 11,
 	/** The code length is 0, not a multiple of 4, or more than an image holds. */
 	THIMMOREL_ERROR_CODE_LENGTH = 12,
-	/** Bytes follow the code: any byte in a file, a byte other than 255 in a slot. */
+	/** Bytes follow the code: any byte in a file, a byte other than 255 in a slot or the internal
+	    area, a byte other than 0 on a card. */
 	THIMMOREL_ERROR_BYTES_FOLLOW = 13,
-	/** The code in a chunk does not have the digest that the firmware header gives. */
+	/** The code in a chunk does not have the digest that its header gives. */
 	THIMMOREL_ERROR_CHUNK_HASH = 14,
 	/** The hash of a chunk without code is not all zero. */
 	THIMMOREL_ERROR_UNUSED_HASH = 15,
@@ -195,6 +204,7 @@ enum thimmorel_error {
 enum thimmorel_part {
 	THIMMOREL_PART_NONE = 0,
 	THIMMOREL_PART_VENDOR_HEADER = 1,
+	/** The firmware header, or the header of a loader. */
 	THIMMOREL_PART_FIRMWARE_HEADER = 2,
 	THIMMOREL_PART_CODE = 3
 };
@@ -214,6 +224,14 @@ enum thimmorel_operation_kind {
 	THIMMOREL_OPERATION_STORE_WORD = 2
 };
 
+/** \brief The area that holds a loader. */
+enum thimmorel_area {
+	THIMMOREL_AREA_NONE = 0,
+	/** The memory card. */
+	THIMMOREL_AREA_CARD = 1,
+	THIMMOREL_AREA_INTERNAL = 2
+};
+
 /** \brief What a check is given besides the bytes. */
 struct thimmorel_inputs {
 	/** The current time. */
@@ -228,7 +246,21 @@ struct thimmorel_inputs {
 	uint32_t firmware_verdict;
 };
 
-/** \brief The answer of a check, a digest question or a close. It is always written. */
+/** \brief What the check of a loader, and the choice of one, is given besides the bytes. */
+struct thimmorel_loader_inputs {
+	/** The current time. */
+	uint32_t time;
+	/** How many keys must have signed a loader. */
+	uint32_t m;
+	/** How many keys there are for loaders. */
+	uint32_t n;
+	/** The chip's verdict on the signature of the card's loader: 1 is yes, any other word no. */
+	uint32_t card_verdict;
+	/** The chip's verdict on the signature of the internal loader: 1 is yes, any other word no. */
+	uint32_t internal_verdict;
+};
+
+/** \brief The answer of a check, a digest question, a choice or a close. It is always written. */
 struct thimmorel_answer {
 	/** One of `enum thimmorel_error`. */
 	uint32_t number;
@@ -240,13 +272,13 @@ struct thimmorel_answer {
 
 /** \brief What an acceptance tells. */
 struct thimmorel_image {
-	/** The length v of the vendor header. */
+	/** The length v of the vendor header. It is 0 for a loader. */
 	uint32_t vendor_length;
 	/** The length of the code. */
 	uint32_t code_length;
-	/** The firmware's version, see THIMMOREL_FIRMWARE_VERSION(). */
+	/** The version of the firmware or the loader, see THIMMOREL_FIRMWARE_VERSION(). */
 	uint32_t version;
-	/** The firmware's fix version, likewise. */
+	/** The fix version, likewise. */
 	uint32_t fix_version;
 };
 
@@ -262,6 +294,15 @@ struct thimmorel_parts {
 	/** The picture area, up to the sigmask. */
 	struct thimmorel_span picture;
 	struct thimmorel_span code;
+};
+
+/** \brief The loader to run. It is always written. */
+struct thimmorel_loader {
+	/** One of `enum thimmorel_area`: the area that holds it. */
+	uint64_t area;
+	/** Its header and its code in that area. The place starts at 0. It is empty if there is no
+	    loader to run. */
+	struct thimmorel_span place;
 };
 
 /** \brief What the chip needs to verify a header's signature, beside the digest. */
@@ -439,8 +480,9 @@ uint32_t thimmorel_check_slot(const uint8_t *bytes, uint64_t length,
 /**
  * \brief Tell where the parts of a checked image are.
  *
- * The call follows a check of the same bytes and takes its number. After a refusal all places are
- * empty, and start at 0. The picture area runs up to the sigmask.
+ * The call follows thimmorel_check_file() or thimmorel_check_slot() of the same bytes and takes its
+ * number. After a refusal all places are empty, and start at 0. The picture area runs up to the
+ * sigmask.
  *
  * After a refusal, pass its number and not 0: such bytes have no parts. Whatever is passed, no part
  * reaches past the end of the bytes.
@@ -859,6 +901,142 @@ uint32_t thimmorel_plan_close(struct thimmorel_record *record, const uint8_t *sl
  */
 uint32_t thimmorel_confirm(struct thimmorel_record *record, const uint8_t *slot,
 	uint64_t slot_length);
+
+/**
+ * # Loaders
+ *
+ * A loader is the second stage of the boot code. The signer has one in its internal area, and field
+ * staff can bring another on a memory card. A loader stands at the start of its area:
+ *
+ *  - A header of 1,024 bytes. It is laid out as the firmware header, but starts with `TRZB`.
+ *
+ *  - Code of 4 to 130,048 bytes, a multiple of 4. All of it is in chunk 1: hash 1 is its digest,
+ *    and hashes 2 to 16 are all zero.
+ *
+ *  - Bytes up to the end of the area that are all 0 on a card, and all 255 in the internal area.
+ *    There may be none.
+ *
+ * There is no vendor header, and v counts as 0. The key policy m of n is the caller's own, as for a
+ * vendor header. Both areas have the same time and policy, and a verdict each.
+ *
+ * The length of an area is not tested. Every byte that is passed and follows the code is looked at,
+ * and bytes that are not passed are not judged. THIMMOREL_LOADER_MAX bytes hold every loader, so
+ * pass at least as many of a card, or all that there are. If there is no card, pass no bytes. Read a
+ * card into memory first, and run what was checked: the card itself can change.
+ *
+ * ## The choice
+ *
+ * A loader is chosen in two steps:
+ *
+ *  1. thimmorel_loader_digest() for each area. The chip then gives its verdict on the signature.
+ *     Take it as no for an area whose digest is refused.
+ *
+ *  2. thimmorel_choose_loader() with both areas and verdicts. It tells where the loader to run is:
+ *     on the card if that is accepted, otherwise in the internal area if that is accepted. If
+ *     neither is, it gives the refusal of the internal area.
+ *
+ * With an accepted card the internal area is not checked. To know that it is good as well, ask
+ * thimmorel_check_internal().
+ *
+ * ## The steps
+ *
+ * The first step that fails gives the answer of a check:
+ *
+ * | step | fails if | number | part |
+ * |---|---|---|---|
+ * | S1 | the bytes do not start with `TRZB` | 1 | 2 |
+ * | S2 | m is 0, m is above n, or n is above 8 | 16 | 0 |
+ * | | there are fewer than 1,024 bytes | 2 | 2 |
+ * | S14 | the header does not give its length as 1,024 | 11 | 2 |
+ * | S16 | the code length is 0, not a multiple of 4, or above 130,048 | 12 | 2 |
+ * | S17 | bytes 24 to 31, or 544 to 958, are not all zero | 6 | 2 |
+ * | S18 | the expiry is not 0, and `time` is above it | 7 | 2 |
+ * | S19 | the sigmask names a key index of n or above, or fewer than m keys | 8 | 2 |
+ * | S20 | the verdict on the area's loader is not 1 | 9 | 2 |
+ * | S21 | the bytes end before the code does | 2 | 3 |
+ * | S22 | a byte after the code is not 0 on a card, or not 255 in the internal area | 13 | 3 |
+ * | S23 | hash 1 is not the digest of the code | 14 | 3 |
+ * | S23 | one of the hashes 2 to 16 is not all zero | 15 | 3 |
+ *
+ * The chunk is 1 with 14, and with 15 the lowest whose hash is not all zero.
+ */
+
+/**
+ * \brief Check the loader on a memory card: the bytes after its code must be 0.
+ *
+ * The bytes are not changed. The code of an accepted loader is from 1,024 on, `code_length` bytes;
+ * thimmorel_find_parts() is not for loaders.
+ *
+ * \param bytes    the card.
+ * \param length   the number of bytes.
+ * \param inputs   the time, the key policy m of n for loaders, and `card_verdict`. The other
+ *                 verdict does not matter.
+ * \param answer   always written: the number, the part and the chunk.
+ * \param image    written only on success: what the header says. `vendor_length` is 0.
+ * \return 0 if the loader is accepted, or the number of the step that fails.
+ */
+uint32_t thimmorel_check_card(const uint8_t *bytes, uint64_t length,
+	const struct thimmorel_loader_inputs *inputs, struct thimmorel_answer *answer,
+	struct thimmorel_image *image);
+
+/**
+ * \brief Check the loader in the internal area: the bytes after its code must be 255.
+ *
+ * Arguments and answers are those of thimmorel_check_card(), with the internal area in place of the
+ * card, and `internal_verdict` in place of `card_verdict`.
+ */
+uint32_t thimmorel_check_internal(const uint8_t *bytes, uint64_t length,
+	const struct thimmorel_loader_inputs *inputs, struct thimmorel_answer *answer,
+	struct thimmorel_image *image);
+
+/**
+ * \brief Compute the digest that a loader's signature signs, on a card or in the internal area.
+ *
+ * It is the digest of the 1,024 bytes of the header, with the last 65 taken as zero. S1, the length
+ * of 1,024 bytes, S14, S16 and S17 must hold. The first that fails gives the answer: 1, 2, 11, 12
+ * or 6, with part 2. No time, policy or verdict matters, and nothing after the header is looked at,
+ * so the code need not be present. The bytes are not changed.
+ *
+ * The chip also needs the sigmask, which is the byte at 959, and the signature, which is the 64
+ * bytes from 960 on. No call tells these places, since they are the same for every loader. The keys
+ * that sign a loader, and how many must, are the caller's own.
+ *
+ * \param bytes    the area, or its start.
+ * \param length   the number of bytes.
+ * \param answer   always written: the number and the part. The chunk is 0.
+ * \param digest   written only on success: the 32 bytes of the digest.
+ * \return 0, or the number of the step that fails.
+ */
+uint32_t thimmorel_loader_digest(const uint8_t *bytes, uint64_t length,
+	struct thimmorel_answer *answer, uint8_t digest[32]);
+
+/**
+ * \brief Choose the loader to run.
+ *
+ * It is the card's if thimmorel_check_card() accepts the card. Otherwise it is the internal one if
+ * thimmorel_check_internal() accepts the internal area. Otherwise there is none, and the answer is
+ * the refusal of the internal area. The refusal of a card is not told: ask thimmorel_check_card().
+ * The versions of the two loaders are not compared. Neither area is changed.
+ *
+ * The area that is told is the argument that holds the loader, so the two must not be swapped.
+ *
+ * \param card              the card.
+ * \param card_length       the number of its bytes.
+ * \param internal          the internal area.
+ * \param internal_length   the number of its bytes.
+ * \param inputs            the time, the key policy m of n for loaders, and both verdicts.
+ * \param answer            always written: the number, the part and the chunk. All are 0 if there
+ *                          is a loader to run.
+ * \param loader            always written: the area that holds the loader, and the place of header
+ *                          and code in it. The code starts 1,024 bytes into the place, and ends
+ *                          with it. If there is no loader to run, the area is THIMMOREL_AREA_NONE
+ *                          and the place empty.
+ * \return 0 if there is a loader to run, or the number of the internal area's refusal.
+ */
+uint32_t thimmorel_choose_loader(const uint8_t *card, uint64_t card_length,
+	const uint8_t *internal, uint64_t internal_length,
+	const struct thimmorel_loader_inputs *inputs, struct thimmorel_answer *answer,
+	struct thimmorel_loader *loader);
 
 #ifdef __cplusplus
 }

@@ -169,4 +169,41 @@ extern "C" {
 
     /// Finishes an install whose file is accepted, once its first word stands in the slot.
     pub fn thimmorel_confirm(record: *mut Record, slot: *const u8, slot_length: u64) -> u32;
+
+    /// Checks the loader on a memory card.
+    pub fn thimmorel_check_card(
+        bytes: *const u8,
+        length: u64,
+        inputs: *const LoaderInputs,
+        answer: *mut Answer,
+        image: *mut Image,
+    ) -> u32;
+
+    /// Checks the loader in the internal area.
+    pub fn thimmorel_check_internal(
+        bytes: *const u8,
+        length: u64,
+        inputs: *const LoaderInputs,
+        answer: *mut Answer,
+        image: *mut Image,
+    ) -> u32;
+
+    /// Computes the digest that a loader's signature signs.
+    pub fn thimmorel_loader_digest(
+        bytes: *const u8,
+        length: u64,
+        answer: *mut Answer,
+        digest: *mut [u8; 32],
+    ) -> u32;
+
+    /// Chooses the loader to run.
+    pub fn thimmorel_choose_loader(
+        card: *const u8,
+        card_length: u64,
+        internal: *const u8,
+        internal_length: u64,
+        inputs: *const LoaderInputs,
+        answer: *mut Answer,
+        loader: *mut Loader,
+    ) -> u32;
 }

@@ -5,6 +5,7 @@
 //! - [`write_vendor`] and [`write_firmware`] write the headers of an image.
 //! - [`Installer`] installs an image over a [`Flash`] that can fail. [`Session`] is the install
 //!   call by call, for a slot in memory or for a driver of your own.
+//! - [`choose_loader`] chooses the loader to run, from a memory card or from the internal area.
 
 #![no_std]
 #![warn(missing_docs)]
@@ -14,6 +15,7 @@ pub mod ffi;
 mod flash;
 mod image;
 mod installer;
+mod loader;
 mod places;
 mod plans;
 mod refusal;
@@ -28,6 +30,9 @@ pub use check::{check_file, check_slot, Inputs};
 pub use flash::{Flash, Operation};
 pub use image::{Image, Version};
 pub use installer::{InstallError, Installer};
+pub use loader::{
+    check_card, check_internal, choose_loader, loader_digest, Area, Chosen, Loader, LoaderInputs,
+};
 pub use refusal::{Part, Reason, Refusal};
 pub use session::{Digests, Progress, Session, Signatures};
 pub use signing::{
@@ -42,6 +47,12 @@ pub const FIRMWARE_HEADER_SIZE: usize = 1_024;
 pub const VENDOR_HEADER_MIN: usize = 512;
 /// Bytes of the longest vendor header.
 pub const VENDOR_HEADER_MAX: usize = 65_536;
+/// Bytes of a loader's header.
+pub const LOADER_HEADER_SIZE: usize = 1_024;
+/// Bytes of the longest code of a loader.
+pub const LOADER_CODE_MAX: usize = 130_048;
+/// Bytes of the longest loader.
+pub const LOADER_MAX: usize = 131_072;
 /// Bytes of a page of the flash.
 pub const PAGE_SIZE: usize = 4_096;
 /// Bytes of a word of the flash.

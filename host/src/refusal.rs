@@ -15,7 +15,8 @@ use core::fmt;
 /// assert_eq!(refusal.part, Some(Part::VendorHeader));
 /// assert_eq!(
 ///     refusal.to_string(),
-///     "refused with 1 in the vendor header: the bytes do not start with TRZV"
+///     "refused with 1 in the vendor header: \
+///      the bytes do not start with TRZV, or for a loader with TRZB"
 /// );
 /// ```
 #[derive(Clone, Copy, Debug, PartialEq, Eq, Hash)]
@@ -36,6 +37,15 @@ impl Refusal {
             part: None,
             chunk: None,
         }
+    }
+
+    /// The same refusal where the image is a loader: part 2 is then the loader's header.
+    pub(crate) fn of_loader(self) -> Refusal {
+        let part = self.part.map(|part| match part {
+            Part::FirmwareHeader => Part::LoaderHeader,
+            part => part,
+        });
+        Refusal { part, ..self }
     }
 
     /// `Ok` for the number 0.
@@ -79,6 +89,8 @@ pub enum Part {
     VendorHeader,
     /// The firmware header.
     FirmwareHeader,
+    /// The header of a loader.
+    LoaderHeader,
     /// The code.
     Code,
 }
@@ -99,6 +111,7 @@ impl fmt::Display for Part {
         f.write_str(match self {
             Part::VendorHeader => "vendor header",
             Part::FirmwareHeader => "firmware header",
+            Part::LoaderHeader => "loader header",
             Part::Code => "code",
         })
     }
@@ -145,7 +158,7 @@ macro_rules! reasons {
 }
 
 reasons! {
-    1 VendorMagic "the bytes do not start with TRZV"
+    1 VendorMagic "the bytes do not start with TRZV, or for a loader with TRZB"
     2 TooShort "the bytes end before this part of the image does"
     3 VendorLength "the length of the vendor header is not a multiple of 512 from 512 to 65,536"
     4 VendorKeys "the vendor header's key numbers are not 1 <= vsig_m <= vsig_n <= 8"
@@ -155,10 +168,11 @@ reasons! {
     8 Sigmask "the sigmask names a key index of n or above, or fewer than m keys"
     9 Verdict "the verdict on the header's signature is no"
     10 FirmwareMagic "the firmware header does not start with TRZF"
-    11 FirmwareLength "the firmware header does not give its length as 1,024"
+    11 FirmwareLength "the firmware header, or a loader's, does not give its length as 1,024"
     12 CodeLength "the code length is 0, not a multiple of 4, or more than an image holds"
-    13 BytesFollow "bytes follow the code: any byte in a file, a byte other than 255 in a slot"
-    14 ChunkHash "the code in a chunk does not have the digest that the firmware header gives"
+    13 BytesFollow "bytes follow the code: any byte in a file, a byte other than 255 in a slot or the \
+        internal area, a byte other than 0 on a card"
+    14 ChunkHash "the code in a chunk does not have the digest that its header gives"
     15 UnusedHash "the hash of a chunk without code is not all zero"
     16 Policy "the caller's key policy is not 1 <= m <= n <= 8"
     17 NoRoom "chunk 1 has no room for code"

@@ -42,7 +42,7 @@ pub fn firmware_digest(bytes: &[u8]) -> Result<[u8; 32], Refusal> {
     ask(ffi::thimmorel_firmware_digest, bytes)
 }
 
-fn ask(call: Question, bytes: &[u8]) -> Result<[u8; 32], Refusal> {
+pub(crate) fn ask(call: Question, bytes: &[u8]) -> Result<[u8; 32], Refusal> {
     let mut answer = ffi::Answer::default();
     let mut digest = [0; 32];
     // SAFETY: the pointer and the length are those of one slice, and what is written are locals, so

@@ -93,6 +93,12 @@ fn the_sizes_of_both_are_the_same() {
         ),
         ("THIMMOREL_VENDOR_HEADER_MIN", thimmorel::VENDOR_HEADER_MIN),
         ("THIMMOREL_VENDOR_HEADER_MAX", thimmorel::VENDOR_HEADER_MAX),
+        (
+            "THIMMOREL_LOADER_HEADER_SIZE",
+            thimmorel::LOADER_HEADER_SIZE,
+        ),
+        ("THIMMOREL_LOADER_CODE_MAX", thimmorel::LOADER_CODE_MAX),
+        ("THIMMOREL_LOADER_MAX", thimmorel::LOADER_MAX),
         ("THIMMOREL_PAGE_SIZE", thimmorel::PAGE_SIZE),
         ("THIMMOREL_WORD_SIZE", thimmorel::WORD_SIZE),
         ("THIMMOREL_SLOT_MAX", thimmorel::SLOT_MAX),

@@ -7,6 +7,8 @@ mod model;
 use model::blake2s::blake2s;
 use model::image::{check, parts, trust, vendor_digest, Form, Inputs, Refusal, YES};
 use model::installer::{self, Operation};
+use model::layout::room_in_first;
+use model::loader::{self, Area};
 use model::program::inspect;
 use model::writer::{firmware_header, vendor_header, FirmwareFields, VendorFields};
 
@@ -224,6 +226,54 @@ fn the_longest_code() {
     };
     assert_eq!(with_codelen(2_095_616), Err(refusal(2, 3)));
     assert_eq!(with_codelen(2_095_620), Err(refusal(12, 2)));
+}
+
+/// A loader's header for code of so many bytes, of which none need be there.
+fn loader_header(codelen: u32, hash: [u8; 32]) -> Vec<u8> {
+    let mut header = vec![0; 1_024];
+    header[..4].copy_from_slice(b"TRZB");
+    header[4..8].copy_from_slice(&1_024_u32.to_le_bytes());
+    header[12..16].copy_from_slice(&codelen.to_le_bytes());
+    header[16..24].copy_from_slice(&[2, 3, 4, 5, 2, 0, 0, 0]);
+    header[32..64].copy_from_slice(&hash);
+    header[959] = 0x03;
+    header
+}
+
+const LOADER_INPUTS: loader::Inputs = loader::Inputs {
+    time: 0,
+    m: 2,
+    n: 3,
+    card: YES,
+    internal: YES,
+};
+
+/// All code of a loader is in chunk 1.
+#[test]
+fn the_longest_loader() {
+    let with_codelen = |codelen| {
+        let header = loader_header(codelen, [0; 32]);
+        loader::check(Area::Card, &header, &LOADER_INPUTS)
+    };
+    assert_eq!(room_in_first(0), 130_048);
+    assert_eq!(with_codelen(130_048), Err(refusal(2, 3)));
+    assert_eq!(with_codelen(130_052), Err(refusal(12, 2)));
+}
+
+#[test]
+fn the_shortest_loader() {
+    let mut bytes = loader_header(4, blake2s(b"code"));
+    bytes.extend(b"code");
+    let told = loader::check(Area::Internal, &bytes, &LOADER_INPUTS).expect("it is good");
+    assert_eq!((told.v, told.codelen), (0, 4));
+    assert_eq!((told.version, told.fix), ([2, 3, 4, 5], [2, 0, 0, 0]));
+    let chosen = loader::choose(&[], &bytes, &LOADER_INPUTS).expect("it is good");
+    assert_eq!((chosen.area, chosen.place), (Area::Internal, 0..1_028));
+
+    bytes.push(0);
+    let check = |area| loader::check(area, &bytes, &LOADER_INPUTS);
+    assert_eq!(check(Area::Card), Ok(told));
+    assert_eq!(check(Area::Internal), Err(refusal(13, 3)));
 }
 
 #[test]

@@ -22,7 +22,7 @@ void fail(const char *what)
 	exit(EXIT_FAILURE);
 }
 
-static void put32(uint8_t *at, uint32_t x)
+void put32(uint8_t *at, uint32_t x)
 {
 	for (int i = 0; i < 4; i++)
 		at[i] = (uint8_t)(x >> (8 * i));

@@ -6,15 +6,22 @@
 #ifndef CALLS_H
 #define CALLS_H
 
+#include <stdint.h>
+
 void fail(const char *what);
+void put32(uint8_t *at, uint32_t x);
 
 /* Before all others. */
 void make_images(void);
+void make_loaders(void);
 
 /* The digest. */
 void pass_over_code(void);
 void pass_over_slot(void);
 void pass_over_header(void);
+void pass_over_loader(void);
+void pass_over_both_loaders(void);
+void pass_over_large_card(void);
 
 /* The calls on an image, and the writers. */
 void check_full_file(void);
@@ -28,6 +35,14 @@ void find_firmware_signature(void);
 void read_trust(void);
 void write_vendor(void);
 void write_firmware(void);
+
+/* The calls on a loader. The choice is between two full areas. The card's code has another digest
+   than its header gives, so the internal loader is chosen. */
+void check_full_card(void);
+void check_small_card(void);
+void check_full_internal(void);
+void ask_loader_digest(void);
+void choose_internal(void);
 
 /* The calls of an install, which has one slot and one record. A call that plans also makes its
    operation. The rest is what the install still needs, by calls of 4 bytes each. */

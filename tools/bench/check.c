@@ -1,6 +1,6 @@
 /*
- * Times the checks, the writers and installs against one BLAKE2s pass or one check, in one run.
- * Prints ratios.
+ * Times the checks, the writers, the choice of a loader and installs against a BLAKE2s pass or one
+ * check, in one run. Prints ratios.
  */
 
 #define _POSIX_C_SOURCE 200809L
@@ -87,9 +87,20 @@ static void print_installs(void)
 	print("plan_close of a full file / the file check of it:", best.plan_close / best.check);
 }
 
+static void print_loaders(void)
+{
+	print("internal check of a full area / a pass over its code:",
+	      ratio(check_full_internal, pass_over_loader));
+	print("card check of 1,028 bytes in 2 MiB / a pass over 2 MiB:",
+	      ratio(check_small_card, pass_over_large_card));
+	print("choice, wrong hash on the card / a pass over both codes:",
+	      ratio(choose_internal, pass_over_both_loaders));
+}
+
 int main(void)
 {
 	make_images();
+	make_loaders();
 	print("file check of a full image / a pass over its code:",
 	      ratio(check_full_file, pass_over_code));
 	print("slot check of a full image / a pass over its code:",
@@ -100,6 +111,7 @@ int main(void)
 	      ratio(write_firmware, pass_over_code));
 	print("vendor header of 65,536 bytes / a pass over it:",
 	      ratio(write_vendor, pass_over_header));
+	print_loaders();
 	print_installs();
 	return EXIT_SUCCESS;
 }

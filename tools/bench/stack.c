@@ -48,6 +48,14 @@ static void print_image(void)
 	print("write_firmware", write_firmware);
 }
 
+static void print_loader(void)
+{
+	print("check_card", check_full_card);
+	print("check_internal", check_full_internal);
+	print("loader_digest", ask_loader_digest);
+	print("choose_loader", choose_internal);
+}
+
 /* One install of each form. */
 static void print_install(void)
 {
@@ -73,9 +81,11 @@ static void print_install(void)
 int main(void)
 {
 	make_images();
+	make_loaders();
 	printf("deepest stack of each call, in bytes:\n");
 	print_image();
 	print_install();
+	print_loader();
 	printf("deepest of all: %zu, of at most %d\n", deepest, LIMIT);
 	if (deepest > LIMIT)
 		fail("a call takes too much stack");

@@ -1,6 +1,6 @@
-"""The check, the digest questions, the trust reading, the writers and the installer, worked out from
-docs/SPECIFICATION.md alone and from none of the Rattle code. Short rather than fast; digests are
-hashlib's."""
+"""The check, the digest questions, the trust reading, the writers, the installer and the loader,
+worked out from docs/SPECIFICATION.md alone and from none of the Rattle code. Short rather than fast;
+digests are hashlib's."""
 
 from hashlib import blake2s
 from typing import NamedTuple
@@ -320,3 +320,83 @@ def close(record, given, slot):
         return record._replace(phase=0), answer
     slot[:4] = record.first
     return record._replace(phase=0, operations=record.operations + 1), "Done"
+
+
+# The loader: a header at 0, laid out like the firmware header, and code, all of it in chunk 1.
+
+
+class AreaInputs(NamedTuple):
+    time: int
+    m: int
+    n: int
+    card: bool
+    internal: bool
+
+
+def loader_shape(data):
+    """Fewer than 1,024 bytes, S14, S16 and S17."""
+    if len(data) < 1_024:
+        return Refusal(2, 2)
+    if number_at(data, 4) != 1_024:
+        return Refusal(11, 2)
+    length = number_at(data, 12)
+    if length % 4 != 0 or not 4 <= length <= 130_048:
+        return Refusal(12, 2)
+    if any(data[24:32]) or any(data[544:959]):
+        return Refusal(6, 2)
+    return None
+
+
+def check_area(data, given, verdict, later):
+    """All steps on the bytes of an area, whose later bytes must have one value."""
+    if data[:4] != b"TRZB":
+        return Refusal(1, 2)
+    if bad_keys(given.m, given.n):
+        return Refusal(16, 0)
+    refusal = loader_shape(data) or signed(number_at(data, 8), given.time, data[959], given.m,
+                                           given.n, verdict, 2)
+    if refusal:
+        return refusal
+    length = number_at(data, 12)
+    code, tail = data[1_024:1_024 + length], data[1_024 + length:]
+    if len(code) < length:
+        return Refusal(2, 3)
+    if any(x != later for x in tail):
+        return Refusal(13, 3)
+    if data[32:64] != digest(code):
+        return Refusal(14, 3, 1)
+    for k in range(2, 17):
+        if any(data[32 * k:32 * k + 32]):
+            return Refusal(15, 3, k)
+    return Accepted(0, length, data[16:20], data[20:24])
+
+
+def check_card(data, given):
+    return check_area(data, given, given.card, 0)
+
+
+def check_internal(data, given):
+    return check_area(data, given, given.internal, 255)
+
+
+def loader_code(data, answer):
+    """The code, empty after a refusal."""
+    return b"" if isinstance(answer, Refusal) else data[1_024:1_024 + answer.codelen]
+
+
+def loader_question(data):
+    """The digest to be signed, or the refusal in its place."""
+    if data[:4] != b"TRZB":
+        return Refusal(1, 2)
+    return loader_shape(data) or digest(data[:959] + bytes(65))
+
+
+def choose(card, internal, given):
+    """Which area holds the loader to run, or the internal refusal; and the loader, header and code."""
+    answer = check_card(card, given)
+    if isinstance(answer, Accepted):
+        return "card", card[:1_024 + answer.codelen]
+    answer = check_internal(internal, given)
+    if isinstance(answer, Accepted):
+        return "internal", internal[:1_024 + answer.codelen]
+    return answer, b""

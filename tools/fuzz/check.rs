@@ -23,7 +23,7 @@ pub fn target(mut head: Input, mut list: Input) {
     let (mut bytes, mut length) = (draft.bytes(), draft.length());
     let places = places(&draft);
     while !list.has_ended() {
-        damage(&mut bytes, &mut length, &places, &mut list);
+        damage(&mut bytes, &mut length, &places, &EDGES, &mut list);
     }
     compare_all(form, &bytes, length, &draft.inputs);
 }
@@ -62,7 +62,13 @@ fn places(draft: &Draft) -> Vec<usize> {
 const EDGES: [u32; 6] = [0, 512, 1_024, 65_536, 2_095_616, 2_097_152];
 
 /// Sets one byte or a word, cuts the lent bytes, or lends more.
-fn damage(bytes: &mut Vec<u8>, length: &mut usize, places: &[usize], list: &mut Input) {
+pub fn damage(
+    bytes: &mut Vec<u8>,
+    length: &mut usize,
+    places: &[usize],
+    edges: &[u32],
+    list: &mut Input,
+) {
     let kind = list.up_to(7);
     let at = list.pick(places) + list.up_to(255);
     match kind {
@@ -75,7 +81,7 @@ fn damage(bytes: &mut Vec<u8>, length: &mut usize, places: &[usize], list: &mut 
         2 => put(bytes, at, &list.word().to_le_bytes()),
         3 => {
             let by = i32::from(list.byte() as i8);
-            let value = list.pick(&EDGES).wrapping_add_signed(by);
+            let value = list.pick(edges).wrapping_add_signed(by);
             put(bytes, at, &value.to_le_bytes());
         }
         _ => put(bytes, at, &[list.byte()]),

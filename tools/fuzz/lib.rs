@@ -9,6 +9,12 @@ extern crate model;
 
 #[path = "../../host/tests/differential/archive/mod.rs"]
 mod archive;
+#[path = "../../host/tests/differential/area.rs"]
+mod area;
+#[path = "../../host/tests/differential/area_faults.rs"]
+mod area_faults;
+#[path = "../../host/tests/differential/areas.rs"]
+mod areas;
 #[path = "../../host/tests/differential/both.rs"]
 mod both;
 #[path = "../../host/tests/differential/draft.rs"]
@@ -34,6 +40,7 @@ mod common {
 mod calls;
 mod check;
 mod input;
+mod loaders;
 mod mutate;
 mod records;
 mod writers;
@@ -84,4 +91,9 @@ unsafe extern "C" fn fuzz_calls(bytes: *const u8, length: usize) {
 #[no_mangle]
 unsafe extern "C" fn fuzz_writers(bytes: *const u8, length: usize) {
     give(bytes, length, writers::target);
+}
+
+#[no_mangle]
+unsafe extern "C" fn fuzz_loaders(bytes: *const u8, length: usize) {
+    give(bytes, length, loaders::target);
 }

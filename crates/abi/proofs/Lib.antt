@@ -1,2 +1,3 @@
 -- The laws that the proofs of abi cite.
 pub mod Numbers
+pub mod Told

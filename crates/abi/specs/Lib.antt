@@ -3,4 +3,5 @@ pub mod Inputs
 pub mod Answers
 pub mod Places
 pub mod Headers
+pub mod Loaders
 pub mod Theorems

@@ -6,6 +6,7 @@ pub mod answer;
 pub mod digest;
 pub mod headers;
 pub mod inputs;
+pub mod loaders;
 pub mod number;
 pub mod places;
 pub mod theorems;

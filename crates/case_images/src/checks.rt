@@ -19,19 +19,13 @@ pub fn inputs(row: &[u8]) -> Inputs {
     }
 }
 
-// How many bytes a part has, and their digest.
-fn print_part(label: usize, bytes: &[u8]) {
-    show::number(label, bytes.len());
-    show::digest(rows::BYTE, bytes);
-}
-
 // The parts of a slot.
 fn parts(row: &[u8], image: &[u8]) {
     let bytes = lent(row, 0, image);
     let answer = image::check_slot(bytes, inputs(row));
-    print_part(rows::STRING, image::string(bytes, answer));
-    print_part(rows::PICTURE, image::picture(bytes, answer));
-    print_part(rows::CODE, image::code(bytes, answer));
+    show::part(rows::STRING, image::string(bytes, answer));
+    show::part(rows::PICTURE, image::picture(bytes, answer));
+    show::part(rows::CODE, image::code(bytes, answer));
 }
 
 pub fn print_digest(label: usize, reply: Digest) {

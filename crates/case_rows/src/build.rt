@@ -1,5 +1,5 @@
-// Images built by hand, byte by byte, after the tables of the specification. No writer makes them, and
-// no reader of a header tells where a field stands.
+// Images and loaders built by hand, byte by byte, after the tables of the specification. No writer makes
+// them, and no reader of a header tells where a field stands.
 //
 // Every function is total: what would fall past the end of the buffer is dropped, and a copy that
 // would is not made.
@@ -97,9 +97,9 @@ fn vendor_areas(row: &[u8], p: Layout, b: &mut [u8]) {
     set(b, octets::minus(p.code, 1089), 3);
 }
 
-// The firmware header behind v bytes, its hashes zero: no expiry, version 1.2.3.4, fix version 5.6.7.8,
-// and a mask of the first two keys.
-fn firmware(row: &[u8], v: u32, b: &mut [u8]) {
+// The header in front of so many bytes of code and behind v bytes, its hashes zero: no expiry, version
+// 1.2.3.4, fix version 5.6.7.8, and a mask of the first two keys.
+fn firmware(codelen: u32, v: u32, b: &mut [u8]) {
     let at = v as usize;
     let mask = at + 959;
     copy(
@@ -107,7 +107,7 @@ fn firmware(row: &[u8], v: u32, b: &mut [u8]) {
         at,
         b"TRZF\x00\x04\0\0\0\0\0\0\0\0\0\0\x01\x02\x03\x04\x05\x06\x07\x08",
     );
-    put_word(b, at + 12, number(row, rows::CODE, 1, 4));
+    put_word(b, at + 12, codelen);
     fill(b, at + 24, mask, 0);
     set(b, mask, 3);
 }
@@ -136,7 +136,7 @@ fn hashes(row: &[u8], v: u32, end: usize, b: &mut [u8]) {
 }
 
 // A byte that the row changes.
-fn edit_byte(row: &[u8], word: usize, b: &mut [u8]) {
+pub fn edit_byte(row: &[u8], word: usize, b: &mut [u8]) {
     let at = number(row, word, 1, 4294967295) as usize;
     set(b, at, put::byte0(number(row, word, 2, 0)));
 }
@@ -148,19 +148,24 @@ fn edit_hash(row: &[u8], v: u32, b: &mut [u8]) {
     copy(b, at, &digest);
 }
 
-// All that the row changes: a hash, a word and two bytes.
-fn edit(row: &[u8], v: u32, b: &mut [u8]) {
+// A hash, a word and a byte that the row changes.
+pub fn edit_one(row: &[u8], v: u32, b: &mut [u8]) {
     edit_hash(row, v, b);
     let at = number(row, rows::WORD, 1, 4294967295) as usize;
     put_word(b, at, number(row, rows::WORD, 2, 0));
     edit_byte(row, rows::BYTE, b);
+}
+
+// All that the row changes: these and a second byte.
+pub fn edit(row: &[u8], v: u32, b: &mut [u8]) {
+    edit_one(row, v, b);
     edit_byte(row, rows::AND, b);
 }
 
 fn headers(row: &[u8], p: Layout, b: &mut [u8]) {
     vendor_fields(row, p.v, b);
     vendor_areas(row, p, b);
-    firmware(row, p.v, b);
+    firmware(number(row, rows::CODE, 1, 4), p.v, b);
     hashes(row, p.v, p.end, b);
 }
 
@@ -180,6 +185,17 @@ pub fn build(row: &[u8], b: &mut [u8]) {
     fill(b, p.end, 8192, 255);
     fill(b, p.end, lent_of(row, p.end, 8192), 255);
     edit(row, p.v, b);
+}
+
+// A loader with so many bytes of code, at the start of a buffer, and x behind it as far as bytes are
+// lent. Its header is laid out like the firmware header.
+pub fn area(row: &[u8], codelen: u32, lent: usize, x: u8, b: &mut [u8]) {
+    let end = 1024 + codelen as usize;
+    pattern(b, end);
+    firmware(codelen, 0, b);
+    copy(b, 0, b"TRZB");
+    hashes(row, 0, end, b);
+    fill(b, end, lent, x);
 }
 
 // What a row lends of the buffer.

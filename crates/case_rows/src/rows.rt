@@ -7,12 +7,12 @@ use octets::part;
 use std::num::wrapping_add_usize;
 
 // All words. A word is told by its place here.
-pub const WORDS: [u8; 398] =
+pub const WORDS: [u8; 435] =
     *b"file slot parts digests trust roundtrip vendor firmware begin record install \
 crossed v m keys string code hashed word byte and nothing lent time policy verdicts keybytes picture \
 room phase pages taken operations piece dirty by erase fill close ask accepted version fix refused part \
 chunk header output same other seconds red click secret begun erased took Done first held kept calls \
-between unknown";
+between card internal question choose loader unknown";
 
 pub const FILE: usize = 0;
 
@@ -140,7 +140,17 @@ pub const CALLS: usize = 61;
 
 pub const BETWEEN: usize = 62;
 
-pub const UNKNOWN: usize = 63;
+pub const CARD: usize = 63;
+
+pub const INTERNAL: usize = 64;
+
+pub const QUESTION: usize = 65;
+
+pub const CHOOSE: usize = 66;
+
+pub const LOADER: usize = 67;
+
+pub const UNKNOWN: usize = 68;
 
 // Whether an item of a list starts at a place, where items have x between them.
 pub fn starts(list: &[u8], at: usize, x: u8) -> bool {

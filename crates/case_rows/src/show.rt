@@ -42,6 +42,12 @@ pub fn digest(label: usize, lent: &[u8]) {
     bytes(label, &digest);
 }
 
+// How many bytes a part has, and their digest.
+pub fn part(label: usize, bytes: &[u8]) {
+    number(label, bytes.len());
+    digest(rows::BYTE, bytes);
+}
+
 pub fn refusal(r: Refusal) {
     number(rows::REFUSED, r.number as usize);
     number(rows::PART, r.part as usize);

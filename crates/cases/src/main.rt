@@ -11,13 +11,14 @@ use case_rows::rows;
 use case_rows::show;
 
 // The answer to a row, by what its first word says.
-fn answer(kind: usize, row: &[u8], image: &[u8], b: &mut [u8]) {
+fn answer(kind: usize, row: &[u8], image: &mut [u8], b: &mut [u8]) {
     match kind {
         rows::FILE..=rows::TRUST => checks::answer(kind, row, image),
         rows::ROUNDTRIP..=rows::FIRMWARE => writers::answer(kind, row, image, b),
         rows::BEGIN => records::begin(row, b),
         rows::RECORD => records::record(row, image, b),
         rows::INSTALL..=rows::CROSSED => installs::install(kind, row, image, b),
+        rows::CARD..=rows::CHOOSE => case_loaders::answer(kind, row, image, b),
         _ => show::word(rows::UNKNOWN),
     }
 }

@@ -1,14 +1,15 @@
 -- What a passing test says of numbers.
 -- Assumes nothing.
-use Prim.Native.Nat.{ℕ, _%_, _≤_}
-use mathlib.Core.Path.{_≡_}
-use mathlib.Core.Bool.{false, not, _||_}
+use Prim.Native.Nat.{ℕ, _^_, _%_, _≤_, _<_}
+use mathlib.Core.Path.{_≡_, refl}
+use mathlib.Core.Bool.{Bool, true, false, not, _||_}
 use native.Mathlib.Omega.{arith}
 use lib.Dec.{ltb, eqb}
-use borrow.Author.Tests.{ltb-false, le-ltb, eqb-true, eqb-false, ne-eqb, not-false}
+use borrow.Author.Tests.{ltb-false, le-ltb, leb-false, lt-leb, eqb-true, eqb-false, ne-eqb, not-false}
+use Rattle.octets.specs.Read.{bitAtOrAbove, onesOf}
 use Rattle.octets.specs.Rounding.{multipleOf}
 use Rattle.octets.proofs.Laws.{or-left, or-right}
-use Rattle.code_header.specs.Tests.{codeLenOutside}
+use Rattle.code_header.specs.Tests.{expired, maskWrong, codeLenOutside}
 
 -- a length of code within a limit
 pub record CodeLenInside (limit c : ℕ) : Type 0 where
@@ -32,3 +33,26 @@ pub inside-code-len : (limit c : ℕ) → 1 ≤ c → c % 4 ≡ 0 → c ≤ limi
 inside-code-len limit c some whole most =
     let n : c ≡ 0 → ⊥ = λ e. omega arith in
     rw (ne-eqb c 0 n, whole, le-ltb limit c most)
+
+-- an expiry that is not 0 is not passed
+pub in-time : (expiry time : ℕ) → expired expiry time ≡ false → (expiry ≡ 0 → ⊥) → time ≤ expiry
+in-time expiry time h n = ltb-false expiry time (rw (ne-eqb expiry 0 n) at h)
+
+pub time-passes : (expiry time : ℕ) → ((expiry ≡ 0 → ⊥) → time ≤ expiry) → expired expiry time ≡ false
+time-passes expiry time h = go (eqb expiry 0) refl
+  where
+    go : (z : Bool) → eqb expiry 0 ≡ z → expired expiry time ≡ false
+    go true e = rw e
+    go false e = rw (e, le-ltb expiry time (h (eqb-false expiry 0 e)))
+
+-- a sigmask has no bit at n or higher, and at least m ones
+pub mask-range : (m n mask : ℕ) → maskWrong m n mask ≡ false → mask < 2 ^ n
+unfolding bitAtOrAbove
+mask-range m n mask h = leb-false (2 ^ n) mask (or-left _ (ltb (onesOf mask) m) h)
+
+pub mask-signers : (m n mask : ℕ) → maskWrong m n mask ≡ false → m ≤ onesOf mask
+mask-signers m n mask h = ltb-false (onesOf mask) m (or-right (bitAtOrAbove n mask) _ h)
+
+pub mask-passes : (m n mask : ℕ) → mask < 2 ^ n → m ≤ onesOf mask → maskWrong m n mask ≡ false
+unfolding bitAtOrAbove
+mask-passes m n mask h g = rw (lt-leb (2 ^ n) mask h, le-ltb (onesOf mask) m g)

@@ -6,6 +6,7 @@ mod check;
 mod digests;
 mod filling;
 mod install;
+mod loaders;
 mod places;
 mod plans;
 mod writers;

@@ -16,7 +16,23 @@ pub struct Inputs {
     pub firmware_verdict: u32,
 }
 
-/// The answer of a check or of a digest question.
+/// What the check of a loader, and the choice of one, is given besides the bytes.
+#[repr(C)]
+#[derive(Clone, Copy, Debug, Default, PartialEq, Eq)]
+pub struct LoaderInputs {
+    /// The current time.
+    pub time: u32,
+    /// How many keys must have signed a loader.
+    pub m: u32,
+    /// How many keys there are for loaders.
+    pub n: u32,
+    /// 1 is yes, any other word no.
+    pub card_verdict: u32,
+    /// 1 is yes, any other word no.
+    pub internal_verdict: u32,
+}
+
+/// The answer of a check, of a digest question or of a choice.
 #[repr(C)]
 #[derive(Clone, Copy, Debug, Default, PartialEq, Eq)]
 pub struct Answer {
@@ -32,13 +48,13 @@ pub struct Answer {
 #[repr(C)]
 #[derive(Clone, Copy, Debug, Default, PartialEq, Eq)]
 pub struct Image {
-    /// The length v of the vendor header.
+    /// The length v of the vendor header. It is 0 for a loader.
     pub vendor_length: u32,
     /// The length of the code.
     pub code_length: u32,
-    /// The firmware's version, the major part in the low 8 bits.
+    /// The version of the firmware or the loader, the major part in the low 8 bits.
     pub version: u32,
-    /// The firmware's fix version, likewise.
+    /// The fix version, likewise.
     pub fix_version: u32,
 }
 
@@ -62,6 +78,16 @@ pub struct Parts {
     pub picture: Span,
     /// The code.
     pub code: Span,
+}
+
+/// The loader to run.
+#[repr(C)]
+#[derive(Clone, Copy, Debug, Default, PartialEq, Eq)]
+pub struct Loader {
+    /// 0 is none, 1 the card, 2 the internal area.
+    pub area: u64,
+    /// Its header and its code in that area.
+    pub place: Span,
 }
 
 /// What the chip needs to verify a header's signature, beside the digest.

@@ -51,9 +51,11 @@ static inline int tells(const struct thimmorel_answer *answer, uint32_t number, 
 	typedef char size_of_##name[sizeof(struct thimmorel_##name) == (size) ? 1 : -1]
 
 EXPECT_SIZE(inputs, 20);
+EXPECT_SIZE(loader_inputs, 20);
 EXPECT_SIZE(answer, 12);
 EXPECT_SIZE(image, 16);
 EXPECT_SIZE(span, 16);
+EXPECT_SIZE(loader, 24);
 EXPECT_SIZE(parts, 48);
 EXPECT_SIZE(signature, 64);
 EXPECT_SIZE(trust, 20);

@@ -151,7 +151,7 @@ pub fn good_mask(m: u32, n: u32, random: &mut Random) -> u8 {
 }
 
 /// Never, or not before `time`.
-fn expiry(time: u32, random: &mut Random) -> u32 {
+pub fn expiry(time: u32, random: &mut Random) -> u32 {
     let later = time + random.up_to((u32::MAX - time) as usize) as u32;
     random.pick(&[0, time, later])
 }

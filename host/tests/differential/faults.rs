@@ -28,17 +28,17 @@ pub fn faulty_draft(most: usize, form: Form, random: &mut Random) -> Draft {
     draft
 }
 
-fn put(bytes: &mut [u8], at: usize, value: u32) {
+pub fn put(bytes: &mut [u8], at: usize, value: u32) {
     bytes[at..at + 4].copy_from_slice(&value.to_le_bytes());
 }
 
 /// Changes the byte to another.
-fn change(byte: &mut u8, random: &mut Random) {
+pub fn change(byte: &mut u8, random: &mut Random) {
     *byte ^= 1 + random.up_to(254) as u8;
 }
 
 /// A mask with a bit at `n` or higher where there is one, or with fewer than `m` ones.
-fn bad_mask(m: u32, n: u32, random: &mut Random) -> u8 {
+pub fn bad_mask(m: u32, n: u32, random: &mut Random) -> u8 {
     if n < 8 && random.one_in(2) {
         let beyond = n as usize + random.up_to(7 - n as usize);
         return random.byte() | 1 << beyond;
@@ -57,7 +57,7 @@ fn s1(draft: &mut Draft, _: Form, random: &mut Random) {
     }
 }
 
-fn s2(draft: &mut Draft, _: Form, random: &mut Random) {
+pub fn impossible_policy(random: &mut Random) -> (u32, u32) {
     let any = 9 + random.up_to(1_000_000) as u32;
     let impossible = [
         (0, 3),
@@ -70,7 +70,11 @@ fn s2(draft: &mut Draft, _: Form, random: &mut Random) {
         (1, any),
         (any, any),
     ];
-    (draft.inputs.m, draft.inputs.n) = random.pick(&impossible);
+    random.pick(&impossible)
+}
+
+fn s2(draft: &mut Draft, _: Form, random: &mut Random) {
+    (draft.inputs.m, draft.inputs.n) = impossible_policy(random);
 }
 
 fn s3(draft: &mut Draft, _: Form, random: &mut Random) {
@@ -137,7 +141,7 @@ fn s8(draft: &mut Draft, _: Form, random: &mut Random) {
 }
 
 /// An expiry and a time just above it, or further.
-fn late(random: &mut Random) -> (u32, u32) {
+pub fn late(random: &mut Random) -> (u32, u32) {
     let expiry = 1 + random.up_to(1_000_000) as u32;
     (expiry, random.pick(&[expiry + 1, expiry + 1_000, u32::MAX]))
 }
@@ -167,10 +171,15 @@ fn s13(draft: &mut Draft, _: Form, random: &mut Random) {
     change(&mut draft.firmware[random.up_to(3)], random);
 }
 
-fn s14(draft: &mut Draft, _: Form, random: &mut Random) {
+/// The header's length.
+pub fn spoil_length(header: &mut [u8], random: &mut Random) {
     let any = random.word() | 1;
     let wrong = [0, 512, 1_020, 1_023, 1_025, 2_048, 1_024 + 65_536, any];
-    put(&mut draft.firmware, 4, random.pick(&wrong));
+    put(header, 4, random.pick(&wrong));
+}
+
+fn s14(draft: &mut Draft, _: Form, random: &mut Random) {
+    spoil_length(&mut draft.firmware, random);
 }
 
 fn largest_code(draft: &Draft) -> u32 {
@@ -195,10 +204,15 @@ fn s16(draft: &mut Draft, _: Form, random: &mut Random) {
     put(&mut draft.firmware, 12, random.pick(&impossible));
 }
 
-fn s17(draft: &mut Draft, _: Form, random: &mut Random) {
+/// A byte that must be zero.
+pub fn spoil_zeros(header: &mut [u8], random: &mut Random) {
     let (before, after) = (24 + random.up_to(7), 544 + random.up_to(414));
     let at = random.pick(&[24, before, 31, 544, after, 958]);
-    change(&mut draft.firmware[at], random);
+    change(&mut header[at], random);
+}
+
+fn s17(draft: &mut Draft, _: Form, random: &mut Random) {
+    spoil_zeros(&mut draft.firmware, random);
 }
 
 /// The vendor header is made to last, since both headers meet the same time.
@@ -246,10 +260,14 @@ fn s23_used(draft: &mut Draft, _: Form, random: &mut Random) {
 }
 
 /// A byte of a hash that is all zero. With all sixteen chunks in use there is none.
-fn s23_unused(draft: &mut Draft, _: Form, random: &mut Random) {
+pub fn spoil_unused_hash(header: &mut [u8], random: &mut Random) {
     let unused: Vec<usize> = (1..=16)
-        .filter(|k| draft.firmware[32 * k..32 * k + 32] == [0; 32])
+        .filter(|k| header[32 * k..32 * k + 32] == [0; 32])
         .collect();
     let k = random.pick(&unused);
-    draft.firmware[32 * k + random.up_to(31)] = 1 + random.up_to(254) as u8;
+    header[32 * k + random.up_to(31)] = 1 + random.up_to(254) as u8;
+}
+
+fn s23_unused(draft: &mut Draft, _: Form, random: &mut Random) {
+    spoil_unused_hash(&mut draft.firmware, random);
 }

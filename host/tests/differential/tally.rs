@@ -99,6 +99,34 @@ pub fn step(answer: &Result<Image, Refusal>, length: usize) -> &'static str {
     }
 }
 
+/// The rows of a loader's steps. One of them has no name: there are fewer than 1,024 bytes.
+pub const LOADER_STEPS: [&str; 13] = [
+    "S1", "S2", "short", "S14", "S16", "S17", "S18", "S19", "S20", "S21", "S22", "S23/14", "S23/15",
+];
+
+/// The row that gave an answer about a loader.
+pub fn loader_step(answer: &Result<Image, Refusal>) -> &'static str {
+    let Err(refusal) = answer else {
+        return ACCEPTED;
+    };
+    match (refusal.number, refusal.part, refusal.chunk) {
+        (1, 2, 0) => "S1",
+        (16, 0, 0) => "S2",
+        (2, 2, 0) => "short",
+        (11, 2, 0) => "S14",
+        (12, 2, 0) => "S16",
+        (6, 2, 0) => "S17",
+        (7, 2, 0) => "S18",
+        (8, 2, 0) => "S19",
+        (9, 2, 0) => "S20",
+        (2, 3, 0) => "S21",
+        (13, 3, 0) => "S22",
+        (14, 3, 1) => "S23/14",
+        (15, 3, 2..=16) => "S23/15",
+        _ => panic!("no row gives {refusal:?}"),
+    }
+}
+
 /// What an installer's call answered: the call, the number and the part.
 pub type Outcome = (&'static str, u32, u32);
 

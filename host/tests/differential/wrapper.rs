@@ -44,7 +44,7 @@ pub fn alone(number: u32) -> Refusal {
     })
 }
 
-fn version([major, minor, patch, build]: [u8; 4]) -> Version {
+pub fn version([major, minor, patch, build]: [u8; 4]) -> Version {
     Version {
         major,
         minor,
@@ -215,7 +215,7 @@ fn how_a_refusal_reads() {
     assert_eq!(
         refusal.to_string(),
         "refused with 14 in the code, chunk 2: \
-         the code in a chunk does not have the digest that the firmware header gives"
+         the code in a chunk does not have the digest that its header gives"
     );
     assert_eq!(
         alone(21).to_string(),

@@ -45,14 +45,14 @@ pub enum Form {
     Slot,
 }
 
-const NO_PART: u32 = 0;
+pub(super) const NO_PART: u32 = 0;
 const VENDOR: u32 = 1;
 const FIRMWARE: u32 = 2;
-const CODE: u32 = 3;
+pub(super) const CODE: u32 = 3;
 
-type Step = Result<(), Refusal>;
+pub(super) type Step = Result<(), Refusal>;
 
-fn refuse_if(fails: bool, number: u32, part: u32) -> Step {
+pub(super) fn refuse_if(fails: bool, number: u32, part: u32) -> Step {
     let chunk = 0;
     match fails {
         true => Err(Refusal {
@@ -80,17 +80,17 @@ pub fn code_length_is_possible(codelen: usize, v: usize) -> bool {
 }
 
 /// S9 and S18: a header is good up to and with its expiry, and 0 is never.
-fn expired(expiry: u32, time: u32) -> bool {
+pub(super) fn expired(expiry: u32, time: u32) -> bool {
     expiry != 0 && time > expiry
 }
 
 /// S10 and S19. The mask is widened first, so that n = 8 shifts all of it out.
-fn mask_fails(sigmask: u8, m: u32, n: u32) -> bool {
+pub(super) fn mask_fails(sigmask: u8, m: u32, n: u32) -> bool {
     let beyond = u32::from(sigmask) >> n;
     beyond != 0 || sigmask.count_ones() < m
 }
 
-fn all_zero(runs: [&[u8]; 2]) -> bool {
+pub(super) fn all_zero(runs: [&[u8]; 2]) -> bool {
     runs.iter().all(|run| run.iter().all(|byte| *byte == 0))
 }
 
@@ -221,7 +221,7 @@ pub fn parts(bytes: &[u8], answer: &Result<Image, Refusal>) -> Parts {
 }
 
 /// The digest to be signed: that of the whole header, its last 65 bytes taken as zero.
-fn digest_to_sign(header: &[u8]) -> [u8; 32] {
+pub(super) fn digest_to_sign(header: &[u8]) -> [u8; 32] {
     let mut unsigned = header.to_vec();
     let seal = header.len() - SEAL;
     unsigned[seal..].fill(0);

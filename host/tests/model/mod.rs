@@ -23,6 +23,8 @@
 //! - Storing a word of four bytes of 255 is an operation, and is counted.
 //! - Done tells nothing else. A confirm that answers 27 leaves the record as it was.
 //! - A verdict is yes if its word is 1, and no otherwise.
+//! - A loader's v is told as 0. The check of an area does not test its length, and the bytes after
+//!   the code may be none. The choice never tells the refusal of a card.
 //! - A number that does not fit its field is 28, before every other refusal of a writer. The key
 //!   numbers m and n are 4 instead.
 //!
@@ -38,5 +40,6 @@ pub mod blake2s;
 pub mod image;
 pub mod installer;
 pub mod layout;
+pub mod loader;
 pub mod program;
 pub mod writer;

@@ -24,15 +24,18 @@ pub fn check(form: Form, bytes: &[u8], inputs: &Inputs) -> Result<Image, Refusal
         )
     };
     given.assert_holds(words_of(inputs));
-    let image = image
-        .written_if(number == 0)
-        .map(|[v, codelen, version, fix]| Image {
-            v,
-            codelen,
-            version: version.to_le_bytes(),
-            fix: fix.to_le_bytes(),
-        });
+    let image = image.written_if(number == 0).map(image_of);
     answer(number, told.written(), image)
+}
+
+/// From the words of a `struct thimmorel_image`.
+pub fn image_of([v, codelen, version, fix]: [u32; 4]) -> Image {
+    Image {
+        v,
+        codelen,
+        version: version.to_le_bytes(),
+        fix: fix.to_le_bytes(),
+    }
 }
 
 /// The places that pairs of a start and a length tell.
@@ -59,7 +62,7 @@ pub fn parts(bytes: &[u8], number: u32) -> Parts {
 
 type Question = unsafe extern "C" fn(*const u8, u64, *mut ffi::Answer, *mut [u8; 32]) -> u32;
 
-fn question(call: Question, bytes: &[u8]) -> Result<[u8; 32], Refusal> {
+pub fn question(call: Question, bytes: &[u8]) -> Result<[u8; 32], Refusal> {
     let mut told = Guarded::<u32, 3>::new(WORD);
     let mut digest = Guarded::<u8, 32>::new(BYTE);
     let number = unsafe {

@@ -4,6 +4,7 @@
 
 pub mod image;
 pub mod installer;
+pub mod loader;
 pub mod writer;
 
 use crate::model::image::{Inputs, Refusal};
