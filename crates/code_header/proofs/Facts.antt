@@ -1,6 +1,6 @@
 -- What a passing test says of numbers.
 -- Assumes nothing.
-use Prim.Native.Nat.{ℕ, _^_, _%_, _≤_, _<_}
+use Prim.Native.Nat.{ℕ, _^_, _%_, _≤_}
 use mathlib.Core.Path.{_≡_, refl}
 use mathlib.Core.Bool.{Bool, true, false, not, _||_}
 use native.Mathlib.Omega.{arith}
@@ -10,6 +10,7 @@ use Rattle.octets.specs.Read.{bitAtOrAbove, onesOf}
 use Rattle.octets.specs.Rounding.{multipleOf}
 use Rattle.octets.proofs.Laws.{or-left, or-right}
 use Rattle.code_header.specs.Tests.{expired, maskWrong, codeLenOutside}
+use Rattle.code_header.specs.Signers.{Signers}
 
 -- a length of code within a limit
 pub record CodeLenInside (limit c : ℕ) : Type 0 where
@@ -45,14 +46,15 @@ time-passes expiry time h = go (eqb expiry 0) refl
     go true e = rw e
     go false e = rw (e, le-ltb expiry time (h (eqb-false expiry 0 e)))
 
--- a sigmask has no bit at n or higher, and at least m ones
-pub mask-range : (m n mask : ℕ) → maskWrong m n mask ≡ false → mask < 2 ^ n
-unfolding bitAtOrAbove
-mask-range m n mask h = leb-false (2 ^ n) mask (or-left _ (ltb (onesOf mask) m) h)
+-- a sigmask passes exactly if it names m signers among n keys
+pub mask-signed : (m n mask : ℕ) → maskWrong m n mask ≡ false → Signers m n mask
+unfolding bitAtOrAbove onesOf
+mask-signed m n mask h =
+    record {
+      within = leb-false (2 ^ n) mask (or-left _ (ltb (onesOf mask) m) h);
+      count = ltb-false (onesOf mask) m (or-right (bitAtOrAbove n mask) _ h);
+    }
 
-pub mask-signers : (m n mask : ℕ) → maskWrong m n mask ≡ false → m ≤ onesOf mask
-mask-signers m n mask h = ltb-false (onesOf mask) m (or-right (bitAtOrAbove n mask) _ h)
-
-pub mask-passes : (m n mask : ℕ) → mask < 2 ^ n → m ≤ onesOf mask → maskWrong m n mask ≡ false
-unfolding bitAtOrAbove
-mask-passes m n mask h g = rw (lt-leb (2 ^ n) mask h, le-ltb (onesOf mask) m g)
+pub signed-mask : (m n mask : ℕ) → Signers m n mask → maskWrong m n mask ≡ false
+unfolding bitAtOrAbove onesOf
+signed-mask m n mask s = rw (lt-leb (2 ^ n) mask (s .within), le-ltb (onesOf mask) m (s .count))

@@ -1,3 +1,4 @@
 -- What the contracts of code_header cite.
 pub mod Layout
 pub mod Tests
+pub mod Signers

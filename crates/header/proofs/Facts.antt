@@ -11,11 +11,12 @@ use borrow.Author.Tests.{ltb-false, leb-true, eqb-true, eqb-false, not-false, lt
 use Rattle.octets.specs.Read.{between, allAre, startsWith}
 use Rattle.octets.specs.Rounding.{multipleOf}
 use Rattle.octets.proofs.Laws.{and-left, and-right, or-left, or-right}
-use Rattle.code_header.proofs.Facts.{CodeLenInside, code-len-inside}
+use Rattle.code_header.proofs.Facts.{CodeLenInside, code-len-inside, mask-signed}
 use Rattle.code_header.specs.Tests.{expired, maskWrong}
 use Rattle.header.specs.Layout.{TRZF, vendorLen, vendorExpiry, signersNeeded, keyCount, stringLen, stringEnd, pictureStart, vendorMask, firmwareMagic, firmwareLen, firmwareExpiry, codeLen, firmwareMask, imageLen, firstRoom}
 use Rattle.header.specs.Steps.{keysImpossible, lengthImpossible, codeLenImpossible, policyImpossible, shorterThanAnyHeader, vendorLenImpossible, vendorHeaderCut, vendorKeysImpossible, stringLeavesNoRoom, vendorBytesNotZero, vendorExpired, vendorMaskWrong, firmwareHeaderCut, firmwareMagicMissing, firmwareLenWrong, firstChunkHasNoRoom, codeLenWrong, firmwareBytesNotZero, firmwareExpired, firmwareMaskWrong, codeCut}
 use Rattle.header.specs.Table.{refusal, firstFailing, vendorShape, vendorPolicy, firmwareShape, firmwarePolicy, headerRows, extentRows}
+use Rattle.header.specs.Theorems.{BothSigned}
 use Rattle.header.specs.declared.Inputs.{Inputs}
 use Rattle.header.specs.declared.Outcome.the-variants.{Pass, Refused}
 use Rattle.header.proofs.Rows.{pass-head, pass-tail, stage-first, stage-then}
@@ -180,6 +181,25 @@ headers-pass magicMissing b given h1 =
       allowed = stage-first _ _ h9;
       firmware = stage-first _ _ h12;
       signed = stage-then (firmwareShape b) _ h12;
+    }
+
+-- so both headers are signed
+pub both-signed : (magicMissing : Bool) (b : List ℕ) (given : Inputs) → firstFailing (headerRows magicMissing b given) ≡ Pass → BothSigned b given
+both-signed magicMissing b given h =
+    let p = headers-pass magicMissing b given h in
+    let k = keys-possible (given .m) (given .n) (p .policy) in
+    let v = vendor-allowed b given (p .allowed) in
+    let l = vendor-shaped b (p .vendor) .keys in
+    let f = firmware-allowed b given (p .signed) in
+    record {
+      vendorLeast = k .some;
+      vendorKeys = k .most;
+      vendorSigners = mask-signed (given .m) (given .n) (vendorMask b) (v .signed);
+      vendorVerdict = v .verdict;
+      firmwareLeast = l .some;
+      firmwareKeys = l .most;
+      firmwareSigners = mask-signed (signersNeeded b) (keyCount b) (firmwareMask b) (f .signed);
+      firmwareVerdict = f .verdict;
     }
 
 -- S21 and S22

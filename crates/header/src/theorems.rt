@@ -6,7 +6,7 @@ pub fn alike_headers_pass_alike()
     ensures { λ r. ⌜ AlikeHeadersPassAlike ⌝ }
 {}
 
-// Headers that pass have the chip's yes, for both of them.
+// Headers that pass are signed, both of them: by m of n keys, and with the chip's yes.
 pub fn passing_headers_are_signed()
     ensures { λ r. ⌜ PassingHeadersAreSigned ⌝ }
 {}

@@ -8,6 +8,7 @@ use lib.ListN.{length, take, drop, replicate}
 use Rattle.octets.specs.Read.{allAre}
 use Rattle.header.specs.Layout.{keyCount, stringLen, pictureStart, imageLen}
 use Rattle.header.specs.Table.{refusal}
+use Rattle.header.specs.Theorems.{BothSigned}
 use Rattle.header.specs.declared.Inputs.{Inputs}
 use Rattle.image.specs.declared.Image.{Image}
 use Rattle.image.specs.declared.Answer.{Answer}
@@ -41,8 +42,8 @@ pub record AcceptedParts : Type 0 where
   pub file : (b : List ℕ) (given : Inputs) (i : Image) → checkFile b given ≡ Accepted i → PartsStand b (checkFile b given) i
   pub slot : (b : List ℕ) (given : Inputs) (i : Image) → checkSlot b given ≡ Accepted i → PartsStand b (checkSlot b given) i
 
--- an accepted image has the chip's yes, for both headers, and an accepted slot is erased behind it
+-- an accepted image is signed, both of its headers, and an accepted slot is erased behind it
 pub record AcceptedIsSigned : Type 0 where
-  pub file : (b : List ℕ) (given : Inputs) (i : Image) → checkFile b given ≡ Accepted i → (given .vendor ≡ true) × (given .firmware ≡ true)
-  pub slot : (b : List ℕ) (given : Inputs) (i : Image) → checkSlot b given ≡ Accepted i → (given .vendor ≡ true) × (given .firmware ≡ true)
+  pub file : (b : List ℕ) (given : Inputs) (i : Image) → checkFile b given ≡ Accepted i → BothSigned b given
+  pub slot : (b : List ℕ) (given : Inputs) (i : Image) → checkSlot b given ≡ Accepted i → BothSigned b given
   pub tail : (b : List ℕ) (given : Inputs) (i : Image) → checkSlot b given ≡ Accepted i → allAre 255 (drop (imageLen b) b) ≡ true

@@ -16,7 +16,7 @@ pub fn accepted_parts()
     ensures { λ r. ⌜ AcceptedParts ⌝ }
 {}
 
-// An accepted image has the chip's yes, for both headers, and an accepted slot is erased behind it.
+// An accepted image is signed, both of its headers, and an accepted slot is erased behind it.
 pub fn accepted_is_signed()
     ensures { λ r. ⌜ AcceptedIsSigned ⌝ }
 {}

@@ -10,7 +10,7 @@ use lib.Dec.{eqb}
 use borrow.Author.Tests.{eqb-true, not-false}
 use Rattle.octets.specs.Read.{u32At, between, startsWith}
 use Rattle.octets.proofs.Laws.{and-left, and-right}
-use Rattle.code_header.proofs.Facts.{in-time, time-passes, mask-range, mask-signers, mask-passes}
+use Rattle.code_header.proofs.Facts.{in-time, time-passes, mask-signed, signed-mask}
 use Rattle.header.specs.Table.{firstFailing}
 use Rattle.header.specs.declared.Refusal.{Refusal}
 use Rattle.header.specs.declared.Outcome.{Outcome}
@@ -134,8 +134,7 @@ module _ (x : ℕ) (b : List ℕ) (given : AreaInputs) (verdict : Bool) where
         within = k .held;
         keys = k .most;
         timely = in-time (u32At b 8) (given .time) (a .timely);
-        range = mask-range (given .m) (given .n) (getD b 959 0) (a .signed);
-        signers = mask-signers (given .m) (given .n) (getD b 959 0) (a .signed);
+        signers = mask-signed (given .m) (given .n) (getD b 959 0) (a .signed);
         agreed = a .agreed;
         v = refl;
         codelen = refl;
@@ -162,7 +161,7 @@ module _ (x : ℕ) (b : List ℕ) (given : AreaInputs) (verdict : Bool) where
             policy-passes b given verdict
             (record {
               timely = time-passes (u32At b 8) (given .time) (l .timely);
-              signed = mask-passes (given .m) (given .n) (getD b 959 0) (l .range) (l .signers);
+              signed = signed-mask (given .m) (given .n) (getD b 959 0) (l .signers);
               agreed = l .agreed;
             });
         extent = extent-passes x b (record { held = omega arith; tail = rw (← c) (l .tail) });

@@ -1,12 +1,13 @@
 -- What is shown of loaders: what an accepted one is, said of its bytes; and which one is handed back.
 -- Assumes nothing.
-use Prim.Native.Nat.{ℕ, _+_, _*_, _^_, _%_, _≤_, _<_}
+use Prim.Native.Nat.{ℕ, _+_, _*_, _%_, _≤_}
 use mathlib.Core.Path.{_≡_}
 use mathlib.Core.Bool.{Bool, true}
 use mathlib.Core.List.{List, [], _∷_, _++_}
 use lib.ListN.{length, getD, take, drop, replicate}
-use Rattle.octets.specs.Read.{u32At, bytesAt, allAre, onesOf}
+use Rattle.octets.specs.Read.{u32At, bytesAt, allAre}
 use Rattle.blake2s.specs.Rfc7693.{blake2sOf}
+use Rattle.code_header.specs.Signers.{Signers}
 use Rattle.header.specs.declared.Refusal.{Refusal}
 use Rattle.header.specs.declared.Outcome.the-variants.{Pass, Refused}
 use Rattle.image.specs.Parts.{whenAccepted}
@@ -40,13 +41,12 @@ pub record IsLoader (x : ℕ) (b : List ℕ) (given : AreaInputs) (verdict : Boo
   pub unused : (k : ℕ) → 2 ≤ k → k ≤ 16 → bytesAt 32 b (32 * k) ≡ replicate 32 0
   -- the later bytes
   pub tail : allAre x (drop (1024 + i .codelen) b) ≡ true
-  -- the policy; the expiry, which 0 leaves out; the sigmask, with no bit at n or higher and at least m ones; and the chip's yes
+  -- the policy; the expiry, which 0 leaves out; the signers; and the chip's yes
   pub least : 1 ≤ given .m
   pub within : given .m ≤ given .n
   pub keys : given .n ≤ 8
   pub timely : (u32At b 8 ≡ 0 → ⊥) → given .time ≤ u32At b 8
-  pub range : getD b 959 0 < 2 ^ given .n
-  pub signers : given .m ≤ onesOf (getD b 959 0)
+  pub signers : Signers (given .m) (given .n) (getD b 959 0)
   pub agreed : verdict ≡ true
   -- what is told: v is 0
   pub v : i .v ≡ 0
