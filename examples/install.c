@@ -76,7 +76,7 @@ static int make(const struct thimmorel_operation *operation)
 	return error;
 }
 
-/* The board's own keys for vendor headers, how many of how many must sign, and the time. */
+/* The board's own keys for vendor headers, of which exactly 2 of 3 must sign, and the time. */
 static const uint8_t board_keys[3 * THIMMOREL_KEY_SIZE] = { 1 };
 enum { BOARD_M = 2, BOARD_N = 3, NOW = 1000 };
 

@@ -78,7 +78,7 @@ extern "C" {
  * | 4 | 4 | its length v: a multiple of 512, from 512 to 65,536 |
  * | 8 | 4 | expiry; 0 means never |
  * | 12, 13 | 1 each | major and minor version |
- * | 14, 15 | 1 each | vsig_m and vsig_n: at least vsig_m of the vsig_n keys sign firmware |
+ * | 14, 15 | 1 each | vsig_m and vsig_n: exactly vsig_m of the vsig_n keys sign firmware |
  * | 16 | 2 | vtrust, see thimmorel_read_trust() |
  * | 18 | 14 | zero |
  * | 32 | 32 * vsig_n | keys |
@@ -114,9 +114,9 @@ extern "C" {
  */
 
 /** The version of this interface. */
-#define THIMMOREL_VERSION "0.3.0"
+#define THIMMOREL_VERSION "0.4.0"
 #define THIMMOREL_VERSION_MAJOR 0
-#define THIMMOREL_VERSION_MINOR 3
+#define THIMMOREL_VERSION_MINOR 4
 #define THIMMOREL_VERSION_PATCH 0
 
 /** Sizes in bytes. */
@@ -160,7 +160,7 @@ enum thimmorel_error {
 	THIMMOREL_ERROR_NOT_ZERO = 6,
 	/** The time is later than the header's expiry. */
 	THIMMOREL_ERROR_EXPIRED = 7,
-	/** The sigmask names a key index of n or above, or fewer than m keys. */
+	/** The sigmask names a key index of n or above, or does not name exactly m keys. */
 	THIMMOREL_ERROR_SIGMASK = 8,
 	/** The verdict on the header's signature is no. */
 	THIMMOREL_ERROR_VERDICT = 9,
@@ -236,7 +236,7 @@ enum thimmorel_area {
 struct thimmorel_inputs {
 	/** The current time. */
 	uint32_t time;
-	/** How many keys must have signed the vendor header. */
+	/** How many keys must have signed the vendor header, no fewer and no more. */
 	uint32_t m;
 	/** How many keys there are for the vendor header. */
 	uint32_t n;
@@ -250,7 +250,7 @@ struct thimmorel_inputs {
 struct thimmorel_loader_inputs {
 	/** The current time. */
 	uint32_t time;
-	/** How many keys must have signed a loader. */
+	/** How many keys must have signed a loader, no fewer and no more. */
 	uint32_t m;
 	/** How many keys there are for loaders. */
 	uint32_t n;
@@ -314,8 +314,8 @@ struct thimmorel_signature {
 	/** For the firmware header the vendor's keys, 32 bytes each. For the vendor header empty: its
 	    keys are the caller's own. */
 	struct thimmorel_span keys;
-	/** How many of these keys must sign, and how many there are. For the vendor header both are 0:
-	    its policy is the caller's own. */
+	/** How many of these keys must sign, no fewer and no more, and how many there are. For the
+	    vendor header both are 0: its policy is the caller's own. */
 	uint64_t m;
 	uint64_t n;
 };
@@ -337,7 +337,7 @@ struct thimmorel_vendor_numbers {
 	/** Major and minor version, each at most 255. */
 	uint32_t major;
 	uint32_t minor;
-	/** vsig_m and vsig_n: how many of how many keys must sign firmware. */
+	/** vsig_m and vsig_n: exactly m of the n keys must sign firmware. */
 	uint32_t m;
 	uint32_t n;
 	/** See thimmorel_read_trust(). At most 65,535. */
@@ -437,7 +437,7 @@ void thimmorel_digest(const uint8_t *bytes, uint64_t length, uint8_t digest[32])
  * | S7 | keys and string leave no room for sigmask and sig | 5 | 1 |
  * | S8 | bytes 18 to 31, or those between string and picture, are not all zero | 6 | 1 |
  * | S9 | the vendor header's expiry is not 0, and `time` is above it | 7 | 1 |
- * | S10 | the sigmask names a key index of n or above, or fewer than m keys | 8 | 1 |
+ * | S10 | the sigmask names a key index of n or above, or does not name exactly m keys | 8 | 1 |
  * | S11 | `vendor_verdict` is not 1 | 9 | 1 |
  * | S12 | the bytes end before the firmware header does | 2 | 2 |
  * | S13 | the firmware header does not start with `TRZF` | 10 | 2 |
@@ -446,7 +446,7 @@ void thimmorel_digest(const uint8_t *bytes, uint64_t length, uint8_t digest[32])
  * | S16 | the code length is 0, not a multiple of 4, or above 2,097,152 - 1,024 - v | 12 | 2 |
  * | S17 | its bytes 24 to 31, or 544 to 958, are not all zero | 6 | 2 |
  * | S18 | its expiry is not 0, and `time` is above it | 7 | 2 |
- * | S19 | its sigmask names a key index of vsig_n or above, or fewer than vsig_m keys | 8 | 2 |
+ * | S19 | its sigmask names an index of vsig_n or above, or does not name exactly vsig_m keys | 8 | 2 |
  * | S20 | `firmware_verdict` is not 1 | 9 | 2 |
  * | S21 | the bytes end before the code does | 2 | 3 |
  * | S22 | bytes follow the code | 13 | 3 |
@@ -546,8 +546,8 @@ void thimmorel_find_vendor_signature(const uint8_t *bytes, uint64_t length,
  * \brief Tell where the firmware header's sigmask and signature are, and the keys that sign it.
  *
  * Where thimmorel_firmware_digest() answers 0 for these bytes, sigmask, signature and keys lie in
- * them, and m of these n keys must sign: 1 <= m <= n <= 8. Otherwise all places are empty, and
- * start at 0, and m and n are 0.
+ * them, and exactly m of these n keys must sign: 1 <= m <= n <= 8. Otherwise all places are empty,
+ * and start at 0, and m and n are 0.
  *
  * \param bytes       the image, or its start.
  * \param length      the number of bytes.
@@ -951,7 +951,7 @@ uint32_t thimmorel_confirm(struct thimmorel_record *record, const uint8_t *slot,
  * | S16 | the code length is 0, not a multiple of 4, or above 130,048 | 12 | 2 |
  * | S17 | bytes 24 to 31, or 544 to 958, are not all zero | 6 | 2 |
  * | S18 | the expiry is not 0, and `time` is above it | 7 | 2 |
- * | S19 | the sigmask names a key index of n or above, or fewer than m keys | 8 | 2 |
+ * | S19 | the sigmask names a key index of n or above, or does not name exactly m keys | 8 | 2 |
  * | S20 | the verdict on the area's loader is not 1 | 9 | 2 |
  * | S21 | the bytes end before the code does | 2 | 3 |
  * | S22 | a byte after the code is not 0 on a card, or not 255 in the internal area | 13 | 3 |

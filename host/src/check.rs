@@ -10,7 +10,7 @@ use crate::refusal::Refusal;
 pub struct Inputs {
     /// The current time, on the same scale as the headers' expiries.
     pub time: u32,
-    /// How many keys must have signed the vendor header.
+    /// How many keys must have signed the vendor header, no fewer and no more.
     pub m: u32,
     /// How many keys there are for the vendor header.
     pub n: u32,

@@ -15,7 +15,7 @@ use core::fmt;
 pub struct LoaderInputs {
     /// The current time, on the same scale as the headers' expiries.
     pub time: u32,
-    /// How many keys must have signed a loader.
+    /// How many keys must have signed a loader, no fewer and no more.
     pub m: u32,
     /// How many keys there are for loaders.
     pub n: u32,

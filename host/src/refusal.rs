@@ -165,7 +165,7 @@ reasons! {
     5 StringLength "the vendor string leaves no room for the signature"
     6 NotZero "a byte of the header that must be zero is not"
     7 Expired "the time is later than the header's expiry"
-    8 Sigmask "the sigmask names a key index of n or above, or fewer than m keys"
+    8 Sigmask "the sigmask names a key index of n or above, or does not name exactly m keys"
     9 Verdict "the verdict on the header's signature is no"
     10 FirmwareMagic "the firmware header does not start with TRZF"
     11 FirmwareLength "the firmware header, or a loader's, does not give its length as 1,024"

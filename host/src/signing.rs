@@ -62,7 +62,8 @@ pub struct Signature<'a> {
     /// For the firmware header the vendor's keys. For the vendor header there are none here: its
     /// keys are your own.
     pub keys: &'a [[u8; 32]],
-    /// How many of these keys must sign. For the vendor header 0: its policy is your own.
+    /// How many of these keys must sign, no fewer and no more. For the vendor header 0: its policy
+    /// is your own.
     pub m: u32,
     /// How many of these keys there are.
     pub n: u32,

@@ -16,7 +16,7 @@ pub struct VendorHeader<'a> {
     pub major: u8,
     /// The minor version.
     pub minor: u8,
-    /// How many of the keys must sign firmware.
+    /// How many of the keys must sign firmware, no fewer and no more.
     pub m: u8,
     /// The keys, from 1 to 8 of them.
     pub keys: &'a [[u8; 32]],

@@ -148,10 +148,8 @@ fn p8_p9_masks_under_2_of_3() {
         };
         check_file(&image_of(&vendor, &firmware, b"code"), &INPUTS)
     };
-    for mask in [0x03, 0x07] {
-        assert_eq!(with_masks(mask, mask), Ok(()));
-    }
-    for mask in [0x01, 0x0b] {
+    assert_eq!(with_masks(0x03, 0x03), Ok(()));
+    for mask in [0x07, 0x01, 0x0b, 0x09] {
         assert_eq!(with_masks(mask, 0x03), Err(refusal(8, 1)));
         assert_eq!(with_masks(0x03, mask), Err(refusal(8, 2)));
     }

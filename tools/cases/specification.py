@@ -119,7 +119,7 @@ def signed(expiry, time, mask, m, n, verdict, part):
     """S9 to S11, or S18 to S20."""
     if expiry != 0 and time > expiry:
         return Refusal(7, part)
-    if mask >> n != 0 or mask.bit_count() < m:
+    if mask >> n != 0 or mask.bit_count() != m:
         return Refusal(8, part)
     if not verdict:
         return Refusal(9, part)

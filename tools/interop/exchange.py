@@ -50,7 +50,7 @@ def draw_version(random):
 
 
 def draw_mask(random, m, n):
-    signers = random.sample(range(n), random.randint(m, n))
+    signers = random.sample(range(n), m)
     return sum(1 << signer for signer in signers)
 
 

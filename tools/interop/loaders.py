@@ -201,7 +201,8 @@ def accepted_by_neither(fields):
     return [
         ("S1, unknown magic", answers(*changed(good, 0)), refused(1, 2), NO_DIGEST),
         ("fewer than 1,024 bytes", answers(good[:1_023]), refused(2, 2), NO_PARSE),
-        ("S19, sigmask with a bit past n", answers(*changed(good, mask, byte=11)),
+        ("S19, sigmask with a bit at n, beside one signer and beside two",
+         answers(*changed(good, mask, byte=9), *changed(good, mask, byte=11)),
          refused(8, 2), BAD_SIGNATURE),
         ("S19, sigmask with too few ones", answers(built(replace(fields, mask=1))),
          refused(8, 2), BAD_SIGNATURE),
@@ -233,6 +234,8 @@ def refused_here(fields):
          answers(*changed(good, 544, 738)), refused(6, 2), OK),
         ("S17, bytes 739 to 958 not zero", answers(*changed(good, 739, 958)), refused(6, 2), OK),
         ("S18, expired", answers(built(replace(fields, expiry=1))), refused(7, 2), OK),
+        ("S19, sigmask with too many ones", answers(built(replace(fields, mask=7))),
+         refused(8, 2), OK),
     ]
 
 

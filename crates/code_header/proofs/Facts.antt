@@ -5,7 +5,7 @@ use mathlib.Core.Path.{_≡_, refl}
 use mathlib.Core.Bool.{Bool, true, false, not, _||_}
 use native.Mathlib.Omega.{arith}
 use lib.Dec.{ltb, eqb}
-use borrow.Author.Tests.{ltb-false, le-ltb, leb-false, lt-leb, eqb-true, eqb-false, ne-eqb, not-false}
+use borrow.Author.Tests.{ltb-false, le-ltb, leb-false, lt-leb, eqb-true, eqb-false, eq-eqb, ne-eqb, not-false}
 use Rattle.octets.specs.Read.{bitAtOrAbove, onesOf}
 use Rattle.octets.specs.Rounding.{multipleOf}
 use Rattle.octets.proofs.Laws.{or-left, or-right}
@@ -46,15 +46,15 @@ time-passes expiry time h = go (eqb expiry 0) refl
     go true e = rw e
     go false e = rw (e, le-ltb expiry time (h (eqb-false expiry 0 e)))
 
--- a sigmask passes exactly if it names m signers among n keys
+-- a sigmask passes exactly if it names m signers among n keys, no fewer and no more
 pub mask-signed : (m n mask : ℕ) → maskWrong m n mask ≡ false → Signers m n mask
 unfolding bitAtOrAbove onesOf
 mask-signed m n mask h =
     record {
-      within = leb-false (2 ^ n) mask (or-left _ (ltb (onesOf mask) m) h);
-      count = ltb-false (onesOf mask) m (or-right (bitAtOrAbove n mask) _ h);
+      within = leb-false (2 ^ n) mask (or-left _ (not (eqb (onesOf mask) m)) h);
+      count = eqb-true (onesOf mask) m (not-false _ (or-right (bitAtOrAbove n mask) _ h));
     }
 
 pub signed-mask : (m n mask : ℕ) → Signers m n mask → maskWrong m n mask ≡ false
 unfolding bitAtOrAbove onesOf
-signed-mask m n mask s = rw (lt-leb (2 ^ n) mask (s .within), le-ltb (onesOf mask) m (s .count))
+signed-mask m n mask s = rw (lt-leb (2 ^ n) mask (s .within), eq-eqb (onesOf mask) m (s .count))

@@ -16,9 +16,9 @@ use Rattle.code_header.specs.Layout.{magicAt, hdrLenAt, expiryAt, codeLe
 abbrev pub expired : ℕ → ℕ → Bool
 expired expiry time = not (eqb expiry 0) && ltb expiry time
 
--- a mask with a bit at n or higher, or with fewer than m ones
+-- a mask with a bit at n or higher, or whose ones do not number exactly m
 abbrev pub maskWrong : ℕ → ℕ → ℕ → Bool
-maskWrong m n mask = bitAtOrAbove n mask || ltb (onesOf mask) m
+maskWrong m n mask = bitAtOrAbove n mask || not (eqb (onesOf mask) m)
 
 -- a code length that is 0, not a multiple of 4, or above a limit
 abbrev pub codeLenOutside : ℕ → ℕ → Bool

@@ -24,7 +24,7 @@ pub fn expired(expiry: u32, time: u32) -> bool
 pub fn mask_wrong(m: u32, n: u32, mask: u8) -> bool
     ensures { λ r. ⌜ r ≡ maskWrong m n mask ⌝ }
 {
-    bit_at_or_above(mask, n) | (ones(mask) < m)
+    bit_at_or_above(mask, n) | (ones(mask) != m)
 }
 
 pub fn code_len_outside(most: usize, c: usize) -> bool

@@ -20,7 +20,7 @@ vendorLen b = u32At b 4
 abbrev pub vendorExpiry : List ℕ → ℕ
 vendorExpiry b = u32At b 8
 
--- vsig_m: how many of the vendor's keys must sign
+-- vsig_m: how many of the vendor's keys must sign, no fewer and no more
 abbrev pub signersNeeded : List ℕ → ℕ
 signersNeeded b = getD b 14 0
 

@@ -6,7 +6,7 @@ pub fn alike_headers_pass_alike()
     ensures { λ r. ⌜ AlikeHeadersPassAlike ⌝ }
 {}
 
-// Headers that pass are signed, both of them: by m of n keys, and with the chip's yes.
+// Headers that pass are signed, both of them: by exactly m of n keys, and with the chip's yes.
 pub fn passing_headers_are_signed()
     ensures { λ r. ⌜ PassingHeadersAreSigned ⌝ }
 {}

@@ -1,5 +1,5 @@
 -- What a signature chip needs of the bytes beside a digest to be signed (specification, 5.1): where the sigmask and the signature stand; and for the
--- firmware header where the vendor's keys stand, and how many of how many must sign. The vendor header's own keys and policy are the caller's.
+-- firmware header where the vendor's keys stand, and that exactly m of these n must sign. The vendor header's own keys and policy are the caller's.
 -- Assumes nothing.
 use Prim.Native.Nat.{ℕ, _+_}
 use mathlib.Core.List.{List}

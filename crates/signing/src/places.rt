@@ -17,8 +17,8 @@ ghost use lib.ListN.{drop};
 ghost use Rattle.signing.specs.Places.{noSignature, vendorPlaces, firmwarePlaces, whenAnswered, vendorSignature, firmwareSignature};
 
 // Where the sigmask and the signature of a header stand; and for the firmware header, where the
-// vendor's keys stand, and that m of these n must sign. For the vendor header there are no keys here,
-// and m and n are 0: its keys and policy are the caller's own.
+// vendor's keys stand, and that exactly m of these n must sign. For the vendor header there are no keys
+// here, and m and n are 0: its keys and policy are the caller's own.
 pub struct Signature {
     pub mask: Span,
     pub sig: Span,

@@ -73,10 +73,10 @@ workedNumbers =
     -- P7: time 100 and 101 against expiry 100
     ∷ (policyOf 100 0x03 100 gives 0)
     ∷ (policyOf 100 0x03 101 gives 7)
-    -- P8: masks that pass under 2 of 3
+    -- P8: under 2 of 3 the mask 0x03, of two signers, passes, and 0x07, of three, does not
     ∷ (policyOf 0 0x03 0 gives 0)
-    ∷ (policyOf 0 0x07 0 gives 0)
-    -- P9: masks that do not
+    ∷ (policyOf 0 0x07 0 gives 8)
+    -- P9: nor do 0x01, of one signer, and 0x0B, which has a bit at 3
     ∷ (policyOf 0 0x01 0 gives 8)
     ∷ (policyOf 0 0x0B 0 gives 8)
     -- P10, P11: seconds to wait

@@ -6,7 +6,7 @@
 pub struct Inputs {
     /// The current time.
     pub time: u32,
-    /// How many keys must have signed the vendor header.
+    /// How many keys must have signed the vendor header, no fewer and no more.
     pub m: u32,
     /// How many keys there are for the vendor header.
     pub n: u32,
@@ -22,7 +22,7 @@ pub struct Inputs {
 pub struct LoaderInputs {
     /// The current time.
     pub time: u32,
-    /// How many keys must have signed a loader.
+    /// How many keys must have signed a loader, no fewer and no more.
     pub m: u32,
     /// How many keys there are for loaders.
     pub n: u32,
@@ -100,7 +100,7 @@ pub struct Signature {
     pub sig: Span,
     /// The keys, 32 bytes each, or empty.
     pub keys: Span,
-    /// How many of these keys must sign.
+    /// How many of these keys must sign, no fewer and no more.
     pub m: u64,
     /// How many of them there are.
     pub n: u64,
@@ -132,7 +132,7 @@ pub struct VendorNumbers {
     pub major: u32,
     /// The minor version, at most 255.
     pub minor: u32,
-    /// How many keys must sign firmware.
+    /// How many keys must sign firmware, no fewer and no more.
     pub m: u32,
     /// How many keys there are.
     pub n: u32,

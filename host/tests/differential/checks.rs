@@ -3,12 +3,12 @@
 
 use crate::archive::image as archive;
 use crate::common::random::Random;
-use crate::draft::{any_inputs, Draft};
+use crate::draft::{any_inputs, likely_mask, Draft};
 use crate::faults::spoil;
 use crate::model::image::{check, Form, Inputs};
 use crate::tally::{cases, step, Tally, ACCEPTED, STEPS};
 
-const FORMS: [Form; 2] = [Form::File, Form::Slot];
+pub const FORMS: [Form; 2] = [Form::File, Form::Slot];
 
 /// Compares the two checks, and tells which row answered.
 pub fn compare(form: Form, bytes: &[u8], inputs: &Inputs) -> &'static str {
@@ -33,7 +33,7 @@ pub fn compare_draft(form: Form, draft: &Draft) -> &'static str {
 }
 
 /// Random bytes, of which most are given some of the fields that let a check go on.
-fn plausible(random: &mut Random) -> Vec<u8> {
+fn plausible(inputs: &Inputs, random: &mut Random) -> Vec<u8> {
     let length = random.up_to(2_600);
     let mut bytes = random.bytes(length);
     if bytes.len() >= 4 && !random.one_in(4) {
@@ -42,6 +42,9 @@ fn plausible(random: &mut Random) -> Vec<u8> {
     if bytes.len() >= 512 && !random.one_in(4) {
         let v = random.pick(&[512, 512, 1_024, 1_536, 2_048, 2_560, 513]);
         bytes[4..8].copy_from_slice(&u32::to_le_bytes(v));
+        if let Some(byte) = bytes.get_mut(v as usize - 65) {
+            *byte = likely_mask(inputs.m, inputs.n, random);
+        }
         bytes[14] = random.up_to(3) as u8;
         bytes[15] = random.pick(&[1, 2, 3, 6, 8, 9]);
         bytes[18..32].fill(0);
@@ -54,7 +57,8 @@ fn random_bytes() {
     let mut random = Random::new(101);
     let mut tally = Tally::new("checks of random bytes");
     for _ in 0..cases(600_000) {
-        let (bytes, inputs) = (plausible(&mut random), any_inputs(&mut random));
+        let inputs = any_inputs(&mut random);
+        let bytes = plausible(&inputs, &mut random);
         for form in FORMS {
             tally.count(compare(form, &bytes, &inputs));
         }

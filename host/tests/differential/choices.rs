@@ -142,10 +142,13 @@ fn every_policy() {
     for (m, n) in (0..=9).flat_map(|m| (0..=9).map(move |n| (m, n))) {
         for _ in 0..cases(20) {
             let mut areas = Areas::accepted(&mut random);
+            let signers = areas.inputs.m;
             (areas.inputs.m, areas.inputs.n) = (m, n);
             let answer = choose_in(&areas).map_err(|refusal| (refusal.number, refusal.part));
             if !(1 <= m && m <= n && n <= 8) {
                 assert_eq!(answer, Err((16, 0)), "{m} of {n}");
+            } else if m != signers {
+                assert_eq!(answer, Err((8, 2)), "{signers} signers, {m} of {n}");
             }
         }
     }

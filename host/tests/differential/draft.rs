@@ -140,14 +140,22 @@ pub fn any_inputs(random: &mut Random) -> Inputs {
     inputs
 }
 
-/// A mask with at least `m` ones, all below bit `n`.
+/// A mask with exactly `m` ones, all below bit `n`.
 pub fn good_mask(m: u32, n: u32, random: &mut Random) -> u8 {
-    let below_n = ((1_u32 << n) - 1) as u8;
-    let mut mask = random.byte() & below_n;
+    let mut mask = 0_u8;
     while mask.count_ones() < m {
         mask |= 1 << random.up_to(n as usize - 1);
     }
     mask
+}
+
+/// A good mask or any mask. Where `m` of `n` is not possible there is no good one.
+pub fn likely_mask(m: u32, n: u32, random: &mut Random) -> u8 {
+    let is_possible = 1 <= m && m <= n && n <= 8;
+    match is_possible && random.one_in(2) {
+        true => good_mask(m, n, random),
+        false => random.byte(),
+    }
 }
 
 /// Never, or not before `time`.

@@ -2,7 +2,7 @@
 //! put in beside others it shows which of them comes first.
 
 use crate::common::random::Random;
-use crate::draft::{no, Draft};
+use crate::draft::{good_mask, no, Draft};
 use crate::model::image::Form;
 use crate::tally::STEPS;
 
@@ -37,17 +37,22 @@ pub fn change(byte: &mut u8, random: &mut Random) {
     *byte ^= 1 + random.up_to(254) as u8;
 }
 
-/// A mask with a bit at `n` or higher where there is one, or with fewer than `m` ones.
+/// A mask with a bit at `n` or higher, or with fewer or more than `m` ones. Of those with such a bit
+/// half are made with `m` ones, so that nothing else is wrong with them.
 pub fn bad_mask(m: u32, n: u32, random: &mut Random) -> u8 {
     if n < 8 && random.one_in(2) {
-        let beyond = n as usize + random.up_to(7 - n as usize);
-        return random.byte() | 1 << beyond;
+        let beyond = 1 << (n as usize + random.up_to(7 - n as usize));
+        return match random.one_in(2) {
+            true => good_mask((m - 1).min(n), n, random) | beyond,
+            false => random.byte() | beyond,
+        };
     }
-    let mut mask = random.byte() & ((1_u32 << n) - 1) as u8;
-    while mask.count_ones() >= m {
-        mask &= mask - 1;
+    loop {
+        let mask = random.byte() & ((1_u32 << n) - 1) as u8;
+        if mask.count_ones() != m {
+            return mask;
+        }
     }
-    mask
 }
 
 fn s1(draft: &mut Draft, _: Form, random: &mut Random) {

@@ -1,5 +1,5 @@
-//! The check of a loader at its edges: lengths of code and of areas, the bytes after the code, all
-//! masks under all policies, expiries, each hash, and images that are no loaders.
+//! The check of a loader at its edges: lengths of code and of areas, the bytes after the code,
+//! expiries, each hash, and images that are no loaders.
 
 use crate::archive::image as image_archive;
 use crate::archive::loader as archive;
@@ -10,7 +10,6 @@ use crate::faults::put;
 use crate::loaders::{compare, compare_draft, in_both};
 use crate::model::blake2s::blake2s;
 use crate::model::image::{Form, Refusal};
-use crate::model::loader::Inputs;
 use crate::tally::{cases, Tally, ACCEPTED};
 
 /// The code is there and hash 1 is its digest, so that its length alone can be wrong.
@@ -116,36 +115,6 @@ fn long_tails() {
             assert_eq!(compare_draft(&draft), (area, "S22"));
         }
     }
-}
-
-#[test]
-fn every_mask_and_policy() {
-    let mut random = Random::new(1206);
-    let mut tally = Tally::new("loader checks of every mask and policy");
-    for area in AREAS {
-        let draft = AreaDraft::small(area, &mut random);
-        let mut bytes = draft.bytes();
-        for mask in 0..=255 {
-            bytes[959] = mask;
-            for (m, n) in (0..=9).flat_map(|m| (0..=9).map(move |n| (m, n))) {
-                let inputs = Inputs {
-                    m,
-                    n,
-                    ..draft.inputs
-                };
-                tally.count(compare(area, &bytes, &inputs));
-            }
-            for (m, n) in [(258, 259), (1, 264), (257, 8), (u32::MAX, u32::MAX)] {
-                let inputs = Inputs {
-                    m,
-                    n,
-                    ..draft.inputs
-                };
-                assert_eq!(compare(area, &bytes, &inputs), (area, "S2"));
-            }
-        }
-    }
-    tally.assert_exactly(500, &in_both(&["S2", "S19", ACCEPTED]));
 }
 
 #[test]

@@ -5,6 +5,7 @@ use crate::archive::loader as archive;
 use crate::area::{any_loader_inputs, verdict, AreaDraft, AREAS};
 use crate::area_faults::spoil;
 use crate::common::random::Random;
+use crate::draft::likely_mask;
 use crate::model::image::Refusal;
 use crate::model::loader::{self as model, Area, Inputs};
 use crate::tally::{cases, loader_step, Tally, ACCEPTED, LOADER_STEPS};
@@ -43,7 +44,7 @@ pub fn compare_draft(draft: &AreaDraft) -> Row {
 }
 
 /// Random bytes, of which most are given some of the fields that let a check go on.
-fn plausible(random: &mut Random) -> Vec<u8> {
+fn plausible(inputs: &Inputs, random: &mut Random) -> Vec<u8> {
     let length = random.up_to(2_000);
     let mut bytes = random.bytes(length);
     if bytes.len() >= 4 && !random.one_in(4) {
@@ -58,6 +59,7 @@ fn plausible(random: &mut Random) -> Vec<u8> {
             bytes[24..32].fill(0);
             bytes[544..959].fill(0);
         }
+        bytes[959] = likely_mask(inputs.m, inputs.n, random);
     }
     bytes
 }
@@ -67,7 +69,8 @@ fn random_bytes() {
     let mut random = Random::new(1101);
     let mut tally = Tally::new("loader checks of random bytes");
     for _ in 0..cases(100_000) {
-        let (bytes, inputs) = (plausible(&mut random), any_loader_inputs(&mut random));
+        let inputs = any_loader_inputs(&mut random);
+        let bytes = plausible(&inputs, &mut random);
         for area in AREAS {
             tally.count(compare(area, &bytes, &inputs));
         }
@@ -148,7 +151,8 @@ fn three_faults() {
             tally.count(compare_draft(&draft));
         }
     }
-    tally.assert_seen(20, &in_both(&LOADER_STEPS));
+    // The last row answers only where all three faults are its own: about once in 2,200 cases.
+    tally.assert_seen(5, &in_both(&LOADER_STEPS));
 }
 
 /// A verdict is yes if its word is 1, and no other word is. That on the other area is not looked at.

@@ -31,6 +31,7 @@ mod loader_damage;
 mod loader_edges;
 mod loader_wrapper;
 mod loaders;
+mod masks;
 mod records;
 mod sessions;
 mod signing;

@@ -84,10 +84,11 @@ pub(super) fn expired(expiry: u32, time: u32) -> bool {
     expiry != 0 && time > expiry
 }
 
-/// S10 and S19. The mask is widened first, so that n = 8 shifts all of it out.
+/// S10 and S19: exactly m signers, all of them keys that are there. The mask is widened first, so
+/// that n = 8 shifts all of it out.
 pub(super) fn mask_fails(sigmask: u8, m: u32, n: u32) -> bool {
     let beyond = u32::from(sigmask) >> n;
-    beyond != 0 || sigmask.count_ones() < m
+    beyond != 0 || sigmask.count_ones() != m
 }
 
 pub(super) fn all_zero(runs: [&[u8]; 2]) -> bool {
