@@ -33,14 +33,6 @@ impl Inputs {
     }
 }
 
-type Check = unsafe extern "C" fn(
-    *const u8,
-    u64,
-    *const ffi::Inputs,
-    *mut ffi::Answer,
-    *mut ffi::Image,
-) -> u32;
-
 /// Checks an image that is a file: nothing may follow the code.
 ///
 /// # Errors
@@ -90,21 +82,35 @@ pub fn check_slot(bytes: &[u8], inputs: Inputs) -> Result<Image<'_>, Refusal> {
     check(ffi::thimmorel_check_slot, bytes, inputs)
 }
 
-fn check(call: Check, bytes: &[u8], inputs: Inputs) -> Result<Image<'_>, Refusal> {
+/// One of the archive's checks, which takes the struct `Given` besides the bytes.
+pub(crate) type Check<Given> =
+    unsafe extern "C" fn(*const u8, u64, *const Given, *mut ffi::Answer, *mut ffi::Image) -> u32;
+
+/// What a check tells of the headers that it accepts.
+pub(crate) fn accepted<Given>(
+    call: Check<Given>,
+    bytes: &[u8],
+    given: &Given,
+) -> Result<ffi::Image, Refusal> {
     let mut answer = ffi::Answer::default();
     let mut image = ffi::Image::default();
-    // SAFETY: the pointer and the length are those of one slice, and the structs are locals, so
-    // they do not overlap.
+    // SAFETY: the pointer and the length are those of one slice, and the structs are the caller's
+    // and locals, so they do not overlap.
     let number = unsafe {
         call(
             bytes.as_ptr(),
             bytes.len() as u64,
-            &inputs.words(),
+            given,
             &mut answer,
             &mut image,
         )
     };
     Refusal::unless_zero_at(number, answer)?;
+    Ok(image)
+}
+
+fn check(call: Check<ffi::Inputs>, bytes: &[u8], inputs: Inputs) -> Result<Image<'_>, Refusal> {
+    let image = accepted(call, bytes, &inputs.words())?;
     let parts = parts(bytes);
     let part = |place| places::at(bytes, place).unwrap_or_default();
     Ok(Image {

@@ -1,6 +1,7 @@
 //! Loaders: the check of a memory card and of the internal area, what a loader's signature signs,
 //! and the choice of the loader to run.
 
+use crate::check::{accepted, Check};
 use crate::ffi;
 use crate::image::Version;
 use crate::places;
@@ -59,14 +60,6 @@ impl fmt::Debug for Loader<'_> {
     }
 }
 
-type Check = unsafe extern "C" fn(
-    *const u8,
-    u64,
-    *const ffi::LoaderInputs,
-    *mut ffi::Answer,
-    *mut ffi::Image,
-) -> u32;
-
 /// Checks the loader on a memory card: the bytes after its code must be 0. Of the two verdicts, the
 /// card's alone matters.
 ///
@@ -119,21 +112,12 @@ pub fn check_internal(bytes: &[u8], inputs: LoaderInputs) -> Result<Loader<'_>, 
     check(ffi::thimmorel_check_internal, bytes, inputs)
 }
 
-fn check(call: Check, bytes: &[u8], inputs: LoaderInputs) -> Result<Loader<'_>, Refusal> {
-    let mut answer = ffi::Answer::default();
-    let mut image = ffi::Image::default();
-    // SAFETY: the pointer and the length are those of one slice, and the structs are locals, so
-    // they do not overlap.
-    let number = unsafe {
-        call(
-            bytes.as_ptr(),
-            bytes.len() as u64,
-            &inputs.words(),
-            &mut answer,
-            &mut image,
-        )
-    };
-    Refusal::unless_zero_at(number, answer).map_err(Refusal::of_loader)?;
+fn check(
+    call: Check<ffi::LoaderInputs>,
+    bytes: &[u8],
+    inputs: LoaderInputs,
+) -> Result<Loader<'_>, Refusal> {
+    let image = accepted(call, bytes, &inputs.words()).map_err(Refusal::of_loader)?;
     let code = ffi::Span {
         start: LOADER_HEADER_SIZE as u64,
         length: image.code_length.into(),

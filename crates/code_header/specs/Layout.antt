@@ -1,5 +1,5 @@
 -- The 1,024-byte header in front of code (specification, 3): where each field stands, by the offset `at` at which the header starts. The firmware
--- header starts at v, behind the vendor header. A byte past the end reads as 0.
+-- header starts at v, behind the vendor header, and that of a loader at 0 (specification, 16.1). A byte past the end reads as 0.
 -- Assumes nothing.
 use Prim.Native.Nat.{ℕ, _+_}
 use mathlib.Core.List.{List}

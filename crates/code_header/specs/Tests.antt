@@ -1,4 +1,4 @@
--- What the steps of a check ask of the header in front of code, and of the bytes behind it (specification, 6): each a test that is true where the
+-- What the steps of a check ask of the header in front of code, and of the bytes behind it (specification, 6 and 16.2): each a test that is true where the
 -- step fails, over the offset `at` at which the header starts. S9 and S10 ask two of them of the vendor header.
 -- Assumes nothing.
 use Prim.Native.Nat.{ℕ, _+_}

@@ -1,4 +1,4 @@
--- The laws that the proofs of sessions cite. Those of installer and abi cite Facts.
+-- The laws of sessions. The proofs of installer, abi_session and thimmorel cite those of Facts, Operations and Settled.
 pub mod Facts
 pub mod Operations
 pub mod Slot

@@ -2,7 +2,7 @@
 //! pieces of an image apart, so that a fault can be put into one of them.
 
 use crate::common::random::Random;
-use crate::model::image::{Form, Inputs, YES};
+use crate::model::image::{policy_is_possible, Form, Inputs, YES};
 use crate::model::writer::{firmware_header, vendor_header, FirmwareFields, VendorFields};
 
 /// An image in pieces, and inputs with which it is accepted.
@@ -151,8 +151,7 @@ pub fn good_mask(m: u32, n: u32, random: &mut Random) -> u8 {
 
 /// A good mask or any mask. Where `m` of `n` is not possible there is no good one.
 pub fn likely_mask(m: u32, n: u32, random: &mut Random) -> u8 {
-    let is_possible = 1 <= m && m <= n && n <= 8;
-    match is_possible && random.one_in(2) {
+    match policy_is_possible(m, n) && random.one_in(2) {
         true => good_mask(m, n, random),
         false => random.byte(),
     }

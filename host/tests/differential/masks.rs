@@ -29,6 +29,16 @@ fn every_m_of_n() -> impl Iterator<Item = (u32, u32)> {
     (1..=8).flat_map(|n| (1..=n).map(move |m| (m, n)))
 }
 
+/// Makes a check with every mask: one of m signers among n keys is accepted, and every other is
+/// refused by this row.
+fn with_every_mask(m: u32, n: u32, row: &str, mut check: impl FnMut(u8) -> &'static str) {
+    let good = masks_of(m, n);
+    for mask in 0..=255 {
+        let expected = if good.contains(&mask) { ACCEPTED } else { row };
+        assert_eq!(check(mask), expected, "{mask:#010b} under {m} of {n}");
+    }
+}
+
 #[test]
 fn of_the_vendor_header() {
     let mut random = Random::new(1601);
@@ -43,15 +53,12 @@ fn of_the_vendor_header() {
                 n,
                 ..draft.inputs
             };
-            let good = masks_of(m, n);
-            for mask in 0..=255 {
+            with_every_mask(m, n, "S10", |mask| {
                 bytes[at] = mask;
                 let row = compare(form, &bytes, &inputs);
-                let is_good = good.contains(&mask);
-                let expected = if is_good { ACCEPTED } else { "S10" };
-                assert_eq!(row, expected, "{mask:#010b} under {m} of {n}");
                 tally.count(row);
-            }
+                row
+            });
         }
     }
     tally.assert_exactly(1_004, &["S10", ACCEPTED]);
@@ -77,51 +84,56 @@ fn of_the_firmware_header() {
             let draft = draft_of(m, n, form, &mut random);
             let mut bytes = draft.bytes();
             let at = draft.v() + 959;
-            let good = masks_of(m, n);
-            for mask in 0..=255 {
+            with_every_mask(m, n, "S19", |mask| {
                 bytes[at] = mask;
                 let row = compare(form, &bytes, &draft.inputs);
-                let is_good = good.contains(&mask);
-                let expected = if is_good { ACCEPTED } else { "S19" };
-                assert_eq!(row, expected, "{mask:#010b} under {m} of {n}");
                 tally.count(row);
-            }
+                row
+            });
         }
     }
     tally.assert_exactly(1_004, &["S19", ACCEPTED]);
 }
 
-/// Under policies that are not possible too.
 #[test]
 fn of_a_loader() {
     let mut random = Random::new(1603);
     let mut tally = Tally::new("loader checks of every sigmask");
-    let small = (0..=9).flat_map(|m| (0..=9).map(move |n| (m, n)));
-    let large = [(258, 259), (1, 264), (257, 8), (u32::MAX, u32::MAX)];
-    let policies: Vec<_> = small.chain(large).collect();
     for area in AREAS {
         let draft = AreaDraft::small(area, &mut random);
         let mut bytes = draft.bytes();
-        for &(m, n) in &policies {
+        for (m, n) in every_m_of_n() {
             let inputs = loader::Inputs {
                 m,
                 n,
                 ..draft.inputs
             };
-            let is_possible = every_m_of_n().any(|possible| possible == (m, n));
-            let good = is_possible.then(|| masks_of(m, n));
-            for mask in 0..=255 {
+            with_every_mask(m, n, "S19", |mask| {
                 bytes[959] = mask;
                 let row = loaders::compare(area, &bytes, &inputs);
-                let expected = match &good {
-                    None => "S2",
-                    Some(good) if good.contains(&mask) => ACCEPTED,
-                    Some(_) => "S19",
-                };
-                assert_eq!(row.1, expected, "{mask:#010b} under {m} of {n}");
                 tally.count(row);
+                row.1
+            });
+        }
+    }
+    tally.assert_exactly(502, &in_both(&["S19", ACCEPTED]));
+}
+
+/// No sigmask is good under a policy that is not possible.
+#[test]
+fn of_a_loader_under_impossible_policies() {
+    let mut random = Random::new(1604);
+    let small = (0..=9).flat_map(|m| (0..=9).map(move |n| (m, n)));
+    let impossible = small.filter(|small| !every_m_of_n().any(|possible| possible == *small));
+    let large = [(258, 259), (1, 264), (257, 8), (u32::MAX, u32::MAX)];
+    for (m, n) in impossible.chain(large) {
+        for area in AREAS {
+            let mut draft = AreaDraft::small(area, &mut random);
+            (draft.inputs.m, draft.inputs.n) = (m, n);
+            for mask in 0..=255 {
+                draft.header[959] = mask;
+                assert_eq!(loaders::compare_draft(&draft), (area, "S2"), "{m} of {n}");
             }
         }
     }
-    tally.assert_exactly(502, &in_both(&["S2", "S19", ACCEPTED]));
 }

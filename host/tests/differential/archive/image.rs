@@ -6,12 +6,16 @@ use crate::model::image::{Form, Image, Inputs, Parts, Refusal, Signature, Trust}
 use std::ops::Range;
 use thimmorel::ffi;
 
-pub fn check(form: Form, bytes: &[u8], inputs: &Inputs) -> Result<Image, Refusal> {
-    let call = match form {
-        Form::File => ffi::thimmorel_check_file,
-        Form::Slot => ffi::thimmorel_check_slot,
-    };
-    let mut given = Guarded::holding(words_of(inputs), WORD);
+type Check<Given> =
+    unsafe extern "C" fn(*const u8, u64, *const Given, *mut ffi::Answer, *mut ffi::Image) -> u32;
+
+/// What a check answers that is given these words.
+pub fn answer_of<Given>(
+    call: Check<Given>,
+    bytes: &[u8],
+    words: [u32; 5],
+) -> Result<Image, Refusal> {
+    let mut given = Guarded::holding(words, WORD);
     let mut told = Guarded::<u32, 3>::new(WORD);
     let mut image = Guarded::<u32, 4>::new(WORD);
     let number = unsafe {
@@ -23,13 +27,21 @@ pub fn check(form: Form, bytes: &[u8], inputs: &Inputs) -> Result<Image, Refusal
             image.pointer(),
         )
     };
-    given.assert_holds(words_of(inputs));
+    given.assert_holds(words);
     let image = image.written_if(number == 0).map(image_of);
     answer(number, told.written(), image)
 }
 
+pub fn check(form: Form, bytes: &[u8], inputs: &Inputs) -> Result<Image, Refusal> {
+    let call = match form {
+        Form::File => ffi::thimmorel_check_file,
+        Form::Slot => ffi::thimmorel_check_slot,
+    };
+    answer_of(call, bytes, words_of(inputs))
+}
+
 /// From the words of a `struct thimmorel_image`.
-pub fn image_of([v, codelen, version, fix]: [u32; 4]) -> Image {
+fn image_of([v, codelen, version, fix]: [u32; 4]) -> Image {
     Image {
         v,
         codelen,

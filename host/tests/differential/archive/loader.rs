@@ -1,6 +1,6 @@
 //! The checks of loaders, the digest question and the choice of the archive.
 
-use super::image::{image_of, question};
+use super::image::{answer_of, question};
 use super::{answer, Guarded, LONG, WORD};
 use crate::model::image::{Image, Refusal};
 use crate::model::loader::{Area, Chosen, Inputs};
@@ -23,21 +23,7 @@ pub fn check(area: Area, bytes: &[u8], inputs: &Inputs) -> Result<Image, Refusal
         Area::Card => ffi::thimmorel_check_card,
         Area::Internal => ffi::thimmorel_check_internal,
     };
-    let mut given = Guarded::holding(words_of(inputs), WORD);
-    let mut told = Guarded::<u32, 3>::new(WORD);
-    let mut image = Guarded::<u32, 4>::new(WORD);
-    let number = unsafe {
-        call(
-            bytes.as_ptr(),
-            bytes.len() as u64,
-            given.pointer(),
-            told.pointer(),
-            image.pointer(),
-        )
-    };
-    given.assert_holds(words_of(inputs));
-    let image = image.written_if(number == 0).map(image_of);
-    answer(number, told.written(), image)
+    answer_of(call, bytes, words_of(inputs))
 }
 
 pub fn digest(bytes: &[u8]) -> Result<[u8; 32], Refusal> {
