@@ -18,7 +18,7 @@ enum {
 	SLOT_LENGTH = 16384, PAGES = SLOT_LENGTH / THIMMOREL_PAGE_SIZE,
 	VENDOR_LENGTH = 512, CODE_START = VENDOR_LENGTH + THIMMOREL_FIRMWARE_HEADER_SIZE,
 	CODE_LENGTH = 3000, FILE_LENGTH = CODE_START + CODE_LENGTH,
-	OPERATIONS = PAGES + FILE_LENGTH / THIMMOREL_WORD_SIZE
+	OPERATIONS = 1 + PAGES + FILE_LENGTH / THIMMOREL_WORD_SIZE
 };
 
 /* The flash. The program reads it in place through `slot`, and only the driver writes it. */
@@ -29,15 +29,20 @@ static const uint8_t *const slot = flash;
 enum { DRIVER_OK = 0, DRIVER_FAILED = 1 };
 static uint32_t fail_in;
 
+/* An erase that fails may leave any words of the page erased: here, those of its second half. */
 static int erase_page(uint32_t offset)
 {
+	const uint32_t half = THIMMOREL_PAGE_SIZE / 2;
+
+	memset(flash + offset + half, 0xff, half);
 	if (fail_in != 0 && --fail_in == 0)
 		return DRIVER_FAILED;
-	memset(flash + offset, 0xff, THIMMOREL_PAGE_SIZE);
+	memset(flash + offset, 0xff, half);
 	return DRIVER_OK;
 }
 
-/* The first byte is in the low 8 bits. A store only clears bits, so the word must be erased. */
+/* The first byte is in the low 8 bits. A store only clears bits: the word there must be erased,
+   unless zero is stored. */
 static int store_word(uint32_t offset, uint32_t word)
 {
 	uint32_t i;
@@ -181,7 +186,8 @@ static struct report install(const uint8_t *file)
 	if (report.refusal != THIMMOREL_OK)
 		return report;
 
-	/* From the first erase until the end, boot() refuses the slot with 1. */
+	/* The first call plans a store of zero over the old first word, and the others the erases. From
+	   then until the end, boot() refuses the slot with 1. */
 	while (record.pages_erased < PAGES) {
 		refusal = thimmorel_plan_erase(&record, slot, SLOT_LENGTH, &operation);
 		if (!go_on(&report, ERASE, refusal, &operation))
@@ -261,7 +267,7 @@ int main(void)
 	for (n = 1; n <= OPERATIONS; n++) {
 		fail_in = n;
 		report = install(files[n % 2]);
-		EXPECT(report.step == (n <= PAGES ? ERASE : n < OPERATIONS ? FILL : CLOSE));
+		EXPECT(report.step == (n <= 1 + PAGES ? ERASE : n < OPERATIONS ? FILL : CLOSE));
 		EXPECT(report.refusal == THIMMOREL_OK && report.driver_error == DRIVER_FAILED);
 		if (n == 1)
 			EXPECT(boot(&image) == THIMMOREL_OK && image.version == 0);

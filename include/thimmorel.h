@@ -114,9 +114,9 @@ extern "C" {
  */
 
 /** The version of this interface. */
-#define THIMMOREL_VERSION "0.4.0"
+#define THIMMOREL_VERSION "0.5.0"
 #define THIMMOREL_VERSION_MAJOR 0
-#define THIMMOREL_VERSION_MINOR 4
+#define THIMMOREL_VERSION_MINOR 5
 #define THIMMOREL_VERSION_PATCH 0
 
 /** Sizes in bytes. */
@@ -370,7 +370,7 @@ struct thimmorel_record {
 	uint32_t pages_erased;
 	/** Bytes taken, of file_length. */
 	uint32_t bytes_taken;
-	/** Operations since begin. At Done they are slot_length / 4,096 + file_length / 4. */
+	/** Operations since begin. At Done they are slot_length / 4,096 + file_length / 4 + 1. */
 	uint32_t operations;
 	/** The first word of the file once it is complete, its first byte in the low 8 bits. */
 	uint32_t first_word;
@@ -386,7 +386,8 @@ struct thimmorel_operation {
 	uint32_t kind;
 	/** Where the page or the word starts, in bytes from the slot's start. It is 0 for nothing. */
 	uint32_t offset;
-	/** The word to be stored, its first byte in the low 8 bits. It is 0 for the other kinds. */
+	/** The word to be stored, its first byte in the low 8 bits. It is 0 for the other kinds, and for
+	    the store that the first erase plans. */
 	uint32_t word;
 };
 
@@ -641,15 +642,18 @@ uint32_t thimmorel_write_firmware(const struct thimmorel_firmware_numbers *numbe
  * # Installing
  *
  * A slot is a multiple of 4,096 bytes, from 4,096 to 2,097,152. The flash has two operations: erase
- * one page of 4,096 bytes to 255, and store one aligned word of 4 bytes over an erased one. Each
- * call makes at most one operation, or hands at most one back, so a power cut falls between two
- * calls if an operation happens wholly or not at all.
+ * one page of 4,096 bytes to 255, and store one aligned word of 4 bytes, over an erased one or, if
+ * it is zero, over any. Each call makes at most one operation, or hands at most one back. A power cut
+ * may fall between two calls or inside an operation: a store then happens wholly or not at all, and
+ * an erase may leave each word of its page as it was or erased.
  *
  * A session has these steps:
  *
  *  1. thimmorel_begin(), once.
  *
- *  2. Erase, once for each page of the slot.
+ *  2. Erase, until all pages are erased: `pages_erased` of the record is then slot_length / 4,096.
+ *     The first call stores zero in the slot's first word, and each further call erases a page, so
+ *     it takes one call more than the slot has pages.
  *
  *  3. Fill, until all bytes of the file are taken: `bytes_taken` of the record is then its
  *     `file_length`, and a fill takes 0 bytes, however long the piece is.
@@ -660,9 +664,10 @@ uint32_t thimmorel_write_firmware(const struct thimmorel_firmware_numbers *numbe
  *  5. Close, with the verdicts.
  *
  * The first word of the file stays in the record until it is stored, as the last operation of all.
- * From the first erase until then, the slot starts with an erased word, and thimmorel_check_slot()
- * refuses it with 1. Done means that the slot holds the file, that the bytes after it are erased,
- * and that thimmorel_check_slot() accepts it with the same inputs.
+ * From the first erase until then, the slot starts with a word that is zero or erased, wherever the
+ * power is cut, and thimmorel_check_slot() refuses it with 1. Done means that the slot holds the
+ * file, that the bytes after it are erased, and that thimmorel_check_slot() accepts it with the same
+ * inputs.
  *
  * ## Two ways to write the slot
  *
@@ -674,6 +679,9 @@ uint32_t thimmorel_write_firmware(const struct thimmorel_firmware_numbers *numbe
  * goes on. A plan_close that returns 0 is not Done: the file is accepted, and its first word is the
  * operation. Once that is made, thimmorel_confirm() reads the slot, and its 0 is Done. No call
  * returns 0 for Done before the first word stands in the slot.
+ *
+ * The first operation of a session is a store of zero in the first word, whatever stands there. It is
+ * the one store that needs no erased word, so a driver must not test for one there.
  *
  * If an operation fails, or the power does, drop the record and begin again. The calls see the slot
  * and not the driver: fill and close refuse a word that they would store over and that is not
@@ -697,9 +705,10 @@ uint32_t thimmorel_write_firmware(const struct thimmorel_firmware_numbers *numbe
  *
  *  - if the record is inconsistent: more pages erased than the slot has, or bytes taken while pages
  *    are still to be erased; more bytes taken than the file has; a slot or file length that begin
- *    refuses; an operation count that is not the pages erased plus the words stored, which are all
- *    complete words except the first. In the accepted phase all pages are erased and all bytes
- *    taken, and the first word counts too;
+ *    refuses; an operation count that is not 1 for the zero of the first erase, plus the pages
+ *    erased, plus the words stored, which are all complete words except the first. With no page
+ *    erased it may also be 0: then nothing was done. In the accepted phase all pages are erased and
+ *    all bytes taken, and the first word counts too;
  *
  *  - if the session is not ready for the call, or past it, as each call says below.
  */
@@ -724,14 +733,15 @@ uint32_t thimmorel_begin(const uint8_t *slot, uint64_t slot_length, uint64_t fil
 	struct thimmorel_record *record);
 
 /**
- * \brief Erase the next page of a slot in memory, from the first up.
+ * \brief Store zero in the first word of a slot in memory; from the second call on, erase the next
+ * page, from the first up.
  *
  * Refusal: 19, also once all pages are erased.
  *
- * \param record        the session. On success it counts one more page and one more operation.
- *                      After a refusal it is unchanged.
- * \param slot          the slot. On success the bytes of the next page are 255. After a refusal it
- *                      is unchanged.
+ * \param record        the session. On success it counts one more operation and, from the second
+ *                      call on, one more page. After a refusal it is unchanged.
+ * \param slot          the slot. On success the bytes of its first word are 0, or those of the next
+ *                      page are 255. After a refusal it is unchanged.
  * \param slot_length   the number of its bytes.
  * \return 0, or 19.
  */
@@ -828,15 +838,17 @@ uint32_t thimmorel_close(struct thimmorel_record *record, uint8_t *slot, uint64_
 	const struct thimmorel_inputs *inputs, struct thimmorel_answer *answer);
 
 /**
- * \brief Plan the erase of the next page, from the first up.
+ * \brief Plan the store of zero in the first word; from the second call on, plan the erase of the
+ * next page, from the first up.
  *
  * The record and the return value are those of thimmorel_erase(), and making the operation has the
- * effect of that call on the slot. Make it before the next call.
+ * effect of that call on the slot. Make it before the next call. The store needs no erased word.
  *
  * \param record        the session.
  * \param slot          the slot. It is only read.
  * \param slot_length   the number of its bytes.
- * \param operation     always written: the page to erase, or nothing after a refusal.
+ * \param operation     always written: the word to store, which is 0 at offset 0, or the page to
+ *                      erase; nothing after a refusal.
  * \return 0, or 19.
  */
 uint32_t thimmorel_plan_erase(struct thimmorel_record *record, const uint8_t *slot,

@@ -99,7 +99,7 @@ extern "C" {
         record: *mut Record,
     ) -> u32;
 
-    /// Erases the next page of a slot in memory.
+    /// Stores zero in the first word of a slot in memory, and then erases the next page.
     pub fn thimmorel_erase(record: *mut Record, slot: *mut u8, slot_length: u64) -> u32;
 
     /// Gives the next bytes of the file to a slot in memory.
@@ -138,7 +138,7 @@ extern "C" {
         answer: *mut Answer,
     ) -> u32;
 
-    /// Plans the erase of the next page.
+    /// Plans the store of zero in the first word, and then the erase of the next page.
     pub fn thimmorel_plan_erase(
         record: *mut Record,
         slot: *const u8,

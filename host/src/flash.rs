@@ -13,7 +13,8 @@ pub enum Operation {
         /// Where the page starts, in bytes from the slot's start.
         offset: usize,
     },
-    /// Store the word of 4 bytes that starts here, over an erased one.
+    /// Store the word of 4 bytes that starts here, over an erased one. The zero that the first erase
+    /// of a session stores in the first word needs no erased one.
     StoreWord {
         /// Where the word starts, in bytes from the slot's start.
         offset: usize,
@@ -39,8 +40,9 @@ impl Operation {
 
 /// A slot in flash: it is read in place, and a driver writes it. Each call may fail.
 ///
-/// An operation happens wholly or not at all, also if it fails or the power does. During an install
-/// nobody else writes the slot.
+/// A store happens wholly or not at all, also if it fails or the power does. An erase that fails, or
+/// that a power cut ends, leaves each word of its page as it was or erased. During an install nobody
+/// else writes the slot.
 pub trait Flash {
     /// Why a call failed.
     type Error;
@@ -56,10 +58,10 @@ pub trait Flash {
     ///
     /// # Errors
     ///
-    /// The page is not erased.
+    /// The page is not erased, or not all of it.
     fn erase_page(&mut self, offset: usize) -> Result<(), Self::Error>;
 
-    /// Stores a word of 4 bytes at this offset, over an erased one.
+    /// Stores a word of 4 bytes at this offset, over an erased one, or zero over any.
     ///
     /// # Errors
     ///

@@ -98,7 +98,8 @@ impl<F: Flash> Installer<F> {
         Ok(Installer { flash, session })
     }
 
-    /// Erases the next page, from the first up.
+    /// Stores zero in the slot's first word the first time, and erases the next page from then on,
+    /// from the first up.
     ///
     /// # Errors
     ///
@@ -109,7 +110,7 @@ impl<F: Flash> Installer<F> {
         self.make(operation)
     }
 
-    /// Erases all pages that are still to be erased.
+    /// Erases all pages that are still to be erased, after the zero in the first word.
     ///
     /// # Errors
     ///

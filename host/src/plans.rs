@@ -10,8 +10,9 @@ use crate::session::Session;
 /// The calls over a slot that a driver writes. Make the operation before the next call. If it
 /// fails, drop the session and begin again.
 impl Session {
-    /// Plans the erase of the next page, from the first up. The session is then as
-    /// [`erase`](Session::erase) leaves it.
+    /// Plans a store of zero in the slot's first word the first time, and the erase of the next page
+    /// from then on, from the first up. That store needs no erased word; every other one does. The
+    /// session is then as [`erase`](Session::erase) leaves it.
     ///
     /// # Errors
     ///

@@ -10,10 +10,11 @@ use core::fmt;
 
 /// An install in progress. The slot is lent to each call anew and must be the same each time.
 ///
-/// The first word of the file stays in the session until it is stored, as the last operation of
-/// all. From the first erase until then, [`check_slot`](crate::check_slot) refuses the slot with 1.
-/// Done means that the slot holds the file, and that the bytes after it are erased. After a power
-/// cut, begin again.
+/// The first erase stores zero in the slot's first word, and that of the file stays in the session
+/// until it is stored, as the last operation of all. From the first erase until then,
+/// [`check_slot`](crate::check_slot) refuses the slot with 1, also after a power cut in the midst of
+/// an erase. Done means that the slot holds the file, and that the bytes after it are erased. After
+/// a power cut, begin again.
 ///
 /// [`erase`](Session::erase), [`fill`](Session::fill) and [`close`](Session::close) write a slot in
 /// memory. [`plan_erase`](Session::plan_erase), [`plan_fill`](Session::plan_fill) and
@@ -37,7 +38,7 @@ use core::fmt;
 ///
 /// let mut slot = [0; 8192];
 /// let mut session = Session::begin(&slot, file.len())?;
-/// for _page in 0..slot.len() / 4096 {
+/// while session.progress().pages_erased < session.progress().pages {
 ///     session.erase(&mut slot)?;
 /// }
 /// let mut given = 0;
@@ -54,7 +55,7 @@ use core::fmt;
 /// assert_eq!(check_slot(&slot, inputs).unwrap_err().reason, Reason::VendorMagic);
 /// session.close(&mut slot, inputs)?;
 /// assert_eq!(check_slot(&slot, inputs)?.code, b"code");
-/// assert_eq!(session.operations(), 2 + 1540 / 4);
+/// assert_eq!(session.operations(), 2 + 1540 / 4 + 1);
 /// # Ok::<(), thimmorel::Refusal>(())
 /// ```
 #[derive(Clone, PartialEq, Eq)]
@@ -129,7 +130,8 @@ impl Session {
         self.record.phase == 0
     }
 
-    /// Erases the next page of the slot, from the first up.
+    /// Stores zero in the slot's first word the first time, whatever stands there, and erases the
+    /// next page from then on, from the first up. So it takes one call more than the slot has pages.
     ///
     /// # Errors
     ///
@@ -256,7 +258,8 @@ impl Session {
         self.record.operations
     }
 
-    /// The words of the record, to be stored. Their meaning stays the same in later versions.
+    /// The words of the record, to be stored. Each keeps its place in later versions. A record of
+    /// another version may be refused with [`Turn`](crate::Reason::Turn); begin again then.
     pub fn words(&self) -> [u32; 16] {
         let record = &self.record;
         let mut words = [0; 16];

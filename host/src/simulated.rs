@@ -1,5 +1,5 @@
 //! A flash in memory for tests. It keeps the rules of a flash, and fails or loses power where it is
-//! told to.
+//! told to, also in the midst of an erase.
 
 use crate::flash::Flash;
 use crate::{PAGE_SIZE, WORD_SIZE};
@@ -25,18 +25,30 @@ use core::fmt;
 pub struct SimulatedFlash<'a> {
     bytes: &'a mut [u8],
     operations: u32,
-    fault: Fault,
+    fault: Fault<'a>,
     has_power: bool,
 }
 
+/// Which words an operation has reached when the power is lost in it.
+type Choice<'a> = &'a (dyn Fn(usize) -> bool + Sync);
+
 /// At which operation something goes wrong, and what.
 #[derive(Clone, Copy)]
-enum Fault {
+enum Fault<'a> {
     None,
     FailAt(u32),
     SkipAt(u32),
     CutBefore(u32),
     CutAfter(u32),
+    CutInside(u32, Choice<'a>),
+}
+
+/// What an operation does.
+enum Effect<'a> {
+    All,
+    Nothing,
+    /// The power is lost in it. The choice says which words it reaches.
+    Part(Choice<'a>),
 }
 
 /// Why a call of a [`SimulatedFlash`] failed.
@@ -47,7 +59,7 @@ pub enum SimulatedError {
     Failed,
     /// There is no power.
     PowerLost,
-    /// A word was to be stored over one that is not erased.
+    /// A word other than zero was to be stored over one that is not erased.
     NotErased {
         /// Where the word starts.
         offset: usize,
@@ -111,7 +123,19 @@ impl<'a> SimulatedFlash<'a> {
         self.with(Fault::CutAfter(operation))
     }
 
-    fn with(self, fault: Fault) -> SimulatedFlash<'a> {
+    /// The power will be lost inside this operation. Of an erase it leaves those words of the page
+    /// erased that the choice names, counted from 0, and the others as they were. A store is made
+    /// if the choice names word 0.
+    #[must_use]
+    pub fn cut_inside(
+        self,
+        operation: u32,
+        choice: &'a (dyn Fn(usize) -> bool + Sync),
+    ) -> SimulatedFlash<'a> {
+        self.with(Fault::CutInside(operation, choice))
+    }
+
+    fn with(self, fault: Fault<'a>) -> SimulatedFlash<'a> {
         SimulatedFlash { fault, ..self }
     }
 
@@ -120,24 +144,28 @@ impl<'a> SimulatedFlash<'a> {
         self.operations
     }
 
-    /// Counts an operation, and tells whether it is to be made.
-    fn start(&mut self) -> Result<bool, SimulatedError> {
+    /// Counts an operation, and tells what it is to do.
+    fn start(&mut self) -> Result<Effect<'a>, SimulatedError> {
         if !self.has_power {
             return Err(SimulatedError::PowerLost);
         }
         self.operations += 1;
         match self.fault {
             Fault::FailAt(at) if at == self.operations => Err(SimulatedError::Failed),
-            Fault::SkipAt(at) if at == self.operations => Ok(false),
+            Fault::SkipAt(at) if at == self.operations => Ok(Effect::Nothing),
             Fault::CutBefore(at) if at == self.operations => {
                 self.has_power = false;
                 Err(SimulatedError::PowerLost)
             }
             Fault::CutAfter(at) if at == self.operations => {
                 self.has_power = false;
-                Ok(true)
+                Ok(Effect::All)
             }
-            _ => Ok(true),
+            Fault::CutInside(at, choice) if at == self.operations => {
+                self.has_power = false;
+                Ok(Effect::Part(choice))
+            }
+            _ => Ok(Effect::All),
         }
     }
 
@@ -163,22 +191,37 @@ impl Flash for SimulatedFlash<'_> {
     }
 
     fn erase_page(&mut self, offset: usize) -> Result<(), SimulatedError> {
-        let is_made = self.start()?;
+        let effect = self.start()?;
         let page = self.place(offset, PAGE_SIZE)?;
-        if is_made {
-            page.fill(255);
+        match effect {
+            Effect::All => page.fill(255),
+            Effect::Nothing => (),
+            Effect::Part(choice) => {
+                let words = page.chunks_mut(WORD_SIZE).enumerate();
+                for (_, word) in words.filter(|(i, _)| choice(*i)) {
+                    word.fill(255);
+                }
+                return Err(SimulatedError::PowerLost);
+            }
         }
         Ok(())
     }
 
     fn store_word(&mut self, offset: usize, word: [u8; 4]) -> Result<(), SimulatedError> {
-        let is_made = self.start()?;
+        let effect = self.start()?;
         let place = self.place(offset, WORD_SIZE)?;
-        if *place != [255; WORD_SIZE] {
+        if word != [0; WORD_SIZE] && *place != [255; WORD_SIZE] {
             return Err(SimulatedError::NotErased { offset });
         }
-        if is_made {
-            place.copy_from_slice(&word);
+        match effect {
+            Effect::All => place.copy_from_slice(&word),
+            Effect::Nothing => (),
+            Effect::Part(choice) => {
+                if choice(0) {
+                    place.copy_from_slice(&word);
+                }
+                return Err(SimulatedError::PowerLost);
+            }
         }
         Ok(())
     }

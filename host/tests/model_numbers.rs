@@ -177,7 +177,7 @@ fn p12_operations() {
     }
     assert!(installer::close(&mut record, &mut slot, &INPUTS).is_ok());
 
-    assert_eq!(record.operations, 401);
+    assert_eq!(record.operations, 402);
     assert_eq!(slot[..1_540], file);
     assert!(slot[1_540..].iter().all(|byte| *byte == 255));
 }
@@ -200,7 +200,7 @@ fn p12_operations_of_a_driver() {
         operation.make(&mut slot);
         made += u32::from(operation != Operation::Nothing);
     }
-    assert_eq!(made, 400);
+    assert_eq!(made, 401);
     assert_eq!(installer::confirm(&mut record, &slot), Err(19));
     let operation = installer::plan_close(&mut record, &slot, &INPUTS).expect("it is good");
     let first = file[..4].try_into().expect("four bytes");
@@ -210,7 +210,7 @@ fn p12_operations_of_a_driver() {
     operation.make(&mut slot);
     assert_eq!(installer::confirm(&mut record, &slot), Ok(()));
     assert_eq!(installer::confirm(&mut record, &slot), Err(19));
-    assert_eq!(record.operations, 401);
+    assert_eq!(record.operations, 402);
     assert_eq!(slot[..1_540], file);
 }
 

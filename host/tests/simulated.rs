@@ -21,8 +21,11 @@ fn the_rules_of_the_simulated_flash() {
     assert_eq!(flash.erase_page(4_096), Ok(()));
     assert_eq!(flash.store_word(4_096, [1, 2, 3, 4]), Ok(()));
     assert_eq!(flash.store_word(4_096, [1, 2, 3, 4]), not_erased);
-    assert_eq!(flash.operations(), 12);
-    assert_eq!(slot[..4_096], [7; 4_096]);
+    let zero = flash.store_word(4_088, [0; 4]);
+    assert_eq!(zero, Ok(()), "over any word");
+    assert_eq!(flash.operations(), 13);
+    assert_eq!(slot[..4_088], [7; 4_088]);
+    assert_eq!(slot[4_088..4_096], [0, 0, 0, 0, 7, 7, 7, 7]);
     assert_eq!(slot[4_096..4_100], [1, 2, 3, 4]);
     assert_eq!(slot[4_100..], [255; 4_092]);
 }
@@ -61,6 +64,31 @@ fn nothing_works_without_power() {
     assert_eq!(flash.operations(), 1);
     assert_eq!(slot[..4_096], [255; 4_096]);
     assert_eq!(slot[4_096..], [0; 4_096]);
+}
+
+#[test]
+fn a_cut_inside_an_operation() {
+    let lost = Err(SimulatedError::PowerLost);
+    let mut slot = [7; SLOT];
+    let mut flash = SimulatedFlash::new(&mut slot).cut_inside(2, &|word| word % 2 == 1);
+    assert_eq!(flash.store_word(4, [0; 4]), Ok(()));
+    assert_eq!(flash.erase_page(4_096), lost);
+    assert_eq!(flash.erase_page(0), lost);
+    assert_eq!(flash.operations(), 2);
+    assert_eq!(slot[..8], [7, 7, 7, 7, 0, 0, 0, 0]);
+    assert_eq!(slot[8..4_096], [7; 4_088]);
+    for words in slot[4_096..].chunks(8) {
+        assert_eq!(words, [7, 7, 7, 7, 255, 255, 255, 255]);
+    }
+
+    for is_made in [false, true] {
+        let mut slot = [7; SLOT];
+        let choice = |_| is_made;
+        let mut flash = SimulatedFlash::new(&mut slot).cut_inside(1, &choice);
+        assert_eq!(flash.store_word(0, [0; 4]), lost);
+        assert_eq!(slot[..4] == [0; 4], is_made);
+        assert_eq!(slot[4..], [7; SLOT - 4]);
+    }
 }
 
 fn refusal() -> Refusal {

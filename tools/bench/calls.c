@@ -194,7 +194,10 @@ void plan_erase_once(void)
 {
 	if (thimmorel_plan_erase(&record, slot, SLOT, &operation) != 0)
 		fail("plan_erase is refused");
-	memset(slot + operation.offset, 255, PAGE);
+	if (operation.kind == THIMMOREL_OPERATION_STORE_WORD)
+		memset(slot + operation.offset, 0, 4);
+	else
+		memset(slot + operation.offset, 255, PAGE);
 }
 
 void erase_rest(void)

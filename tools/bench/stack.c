@@ -60,6 +60,7 @@ static void print_loader(void)
 static void print_install(void)
 {
 	print("begin", begin_install);
+	erase_once();
 	print("erase", erase_once);
 	erase_rest();
 	fill_once();
@@ -69,6 +70,7 @@ static void print_install(void)
 	print("find_signatures", find_signatures);
 	print("close", close_install);
 	begin_install();
+	plan_erase_once();
 	print("plan_erase", plan_erase_once);
 	erase_rest();
 	plan_fill_once();

@@ -258,7 +258,8 @@ def is_consistent(record, slot):
     phase, length, file, pages, taken, operations, _, _ = record
     return (phase == 1 and length == len(slot) and takes_slot(length) and takes_file(length, file)
             and pages <= length // PAGE and (taken == 0 or pages == length // PAGE)
-            and taken <= file and operations == pages + max(0, taken // 4 - 1))
+            and taken <= file and (operations == 1 + pages + max(0, taken // 4 - 1)
+                                   or operations == pages == 0))
 
 
 def is_full(record, slot):
@@ -281,8 +282,12 @@ def begin(slot, file):
 def erase(record, slot):
     if not is_consistent(record, slot) or record.pages == record.slot // PAGE:
         return record, 19
+    after = record._replace(operations=record.operations + 1)
+    if record.operations == 0:
+        slot[:4] = bytes(4)
+        return after, "erased"
     slot[PAGE * record.pages:PAGE * (record.pages + 1)] = ERASED * PAGE
-    return record._replace(pages=record.pages + 1, operations=record.operations + 1), "erased"
+    return after._replace(pages=record.pages + 1), "erased"
 
 
 def fill(record, piece, slot):

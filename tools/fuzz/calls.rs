@@ -59,9 +59,9 @@ struct Install {
 impl Install {
     /// One item of the list: a call, a run of calls whose turn it is, or an act of somebody else.
     fn step(&mut self, list: &mut Input) {
-        let item = list.up_to(31);
-        let way = WAYS[item / 16];
-        match item % 16 {
+        let item = list.up_to(33);
+        let way = WAYS[item / 17];
+        match item % 17 {
             0 => while self.erase(way) {},
             1 => _ = self.erase(way),
             2 | 3 => while self.fill_next(way, 4) > 0 {},
@@ -75,6 +75,7 @@ impl Install {
             12 => self.meddle(list),
             13 => self.lend_another_length(way, list),
             14 => self.begin_again(self.both.slot().len(), self.file.len()),
+            15 => self.cut_in_erase(list),
             _ => self.begin_with_any_lengths(list),
         }
     }
@@ -170,11 +171,30 @@ impl Install {
         self.landed = landed;
     }
 
+    /// The power is cut inside an erase, where that is next, and a session begins on what is left.
+    fn cut_in_erase(&mut self, list: &mut Input) {
+        let Some(landed) = self.landed.as_mut().filter(|landed| landed.is_erasing()) else {
+            return;
+        };
+        let choice = list.bytes(8);
+        let mut bit = 0;
+        let left = self.both.cut_in_erase(&mut || {
+            bit += 1;
+            choice[bit / 8 % 8] >> (bit % 8) & 1 == 1
+        });
+        landed.cut_in_erase(&left);
+        self.begin_on(&left, self.file.len());
+    }
+
     /// Begins on the slot as it stands, shortened or with other bytes after it.
     fn begin_again(&mut self, slot_length: usize, file_length: usize) {
         let mut slot = self.both.slot().to_vec();
         slot.resize(slot_length, 0x5a);
-        (self.both, self.landed) = begin(&slot, file_length);
+        self.begin_on(&slot, file_length);
+    }
+
+    fn begin_on(&mut self, slot: &[u8], file_length: usize) {
+        (self.both, self.landed) = begin(slot, file_length);
         self.given = 0;
         self.calls += 1;
     }

@@ -16,7 +16,7 @@ const HEAD: usize = 96;
 
 /// Erase all, fill all, ask, close and confirm: as `Install::step` in calls.rs reads them, for a
 /// slot in memory, and for one that a driver writes.
-const INSTALLS: [[u8; 5]; 2] = [[0, 2, 7, 8, 11], [16, 18, 23, 24, 27]];
+const INSTALLS: [[u8; 5]; 2] = [[0, 2, 7, 8, 11], [17, 19, 24, 25, 28]];
 
 fn seed(target: &str, random: &mut Random) -> Vec<u8> {
     let mut bytes = random.bytes(HEAD);

@@ -19,11 +19,11 @@ use Rattle.flash.specs.Flash.{startsErased}
 use Rattle.image.specs.Check.{checkFile}
 use Rattle.image.specs.declared.Answer.{Answer}
 use Rattle.image.specs.declared.Answer.the-variants.{Accepted, Rejected}
-use Rattle.sessions.specs.Record.{over, live, accepted, slotLenRight, fileLenRight, pagesOf, sound, erasing, filling, full, waiting, newRecord, withPage, withBytes, withPhase}
+use Rattle.sessions.specs.Record.{untouched, withZero, over, live, accepted, slotLenRight, fileLenRight, pagesOf, sound, erasing, filling, full, waiting, newRecord, withPage, withBytes, withPhase}
 use Rattle.sessions.specs.Calls.{beginOf, erasePlan, takenBy, joined, wordAt, inFirstWord, filled, fileIn, closeBy, confirmOf, turnOf}
 use Rattle.sessions.specs.declared.Session.{Session}
 use Rattle.sessions.specs.declared.Plan.{Plan}
-use Rattle.sessions.proofs.Facts.{passed, passed-full, waiting-facts}
+use Rattle.sessions.proofs.Facts.{passed, passed-full, waiting-facts, counted-most}
 use Rattle.abi_session.specs.Record.{sessionOf, wordsOver, wordsOf}
 use Rattle.abi_session.specs.Carried.{CarriesTurn, CarriesPlan, WordsCarryTheRecord}
 
@@ -162,22 +162,26 @@ module _ (w slot : List ℕ) where
   n = length slot
 
   erase-carried : Carries w (erasePlan s slot)
-  erase-carried = go (erasing s n) refl
+  erase-carried = go (erasing s n) refl (untouched s) refl
     where
-      go : (a : Bool) → erasing s n ≡ a → Carries w (erasePlan s slot)
-      go true p =
+      go : (a : Bool) → erasing s n ≡ a → (b : Bool) → untouched s ≡ b → Carries w (erasePlan s slot)
+      go true p true q =
+          let f = passed s n (sound s n) (leb (s .pages + 1) (pagesOf n)) refl (ap not p) in
+          let back = read-back w (withZero s) (omega (arith, f .0, counted-most s n (f .0))) (first-word w) (held-word w) in
+          (rw (p, q) back, rw (p, q) back)
+      go true p false q =
           let f = passed s n (sound s n) (leb (s .pages + 1) (pagesOf n)) refl (ap not p) in
           let more : s .pages + 1 ≤ pagesOf n = leb-true (s .pages + 1) (pagesOf n) (f .1) in
-          let back = read-back w (withPage s) (omega (arith, f .0)) (first-word w) (held-word w) in
-          (rw p back, rw p back)
-      go false p = (rw p, rw p)
+          let back = read-back w (withPage s) (omega (arith, f .0, counted-most s n (f .0))) (first-word w) (held-word w) in
+          (rw (p, q) back, rw (p, q) back)
+      go false p b q = (rw p, rw p)
 
   -- a record with k bytes more, no more than the file has, is read back
   bytes-back : (k : ℕ) (held first : List ℕ) (stored : ℕ) → filling s n ≡ true → k ≤ s .file - s .taken → stored ≤ 1 → Word held → Word first
       → sessionOf (wordsOver w (withBytes s k held first stored)) ≡ withBytes s k held first stored
   bytes-back k held first stored p h o x y =
       let f = passed s n (sound s n) (eqb (s .pages) (pagesOf n)) refl (ap not p) in
-      read-back w (withBytes s k held first stored) (omega (arith, f .0)) y x
+      read-back w (withBytes s k held first stored) (omega (arith, f .0, counted-most s n (f .0))) y x
 
   -- where it takes k bytes, which make the word x
   fill-carried : (k : ℕ) (x : List ℕ) → k ≤ s .file - s .taken → Word x → Carries w (filled s k x slot)
@@ -202,7 +206,7 @@ module _ (w slot : List ℕ) where
   phase-back : (phase operations : ℕ) → full s n ≡ true → operations ≤ s .operations + 1 → sessionOf (wordsOver w (withPhase s phase operations)) ≡ withPhase s phase operations
   phase-back phase operations p h =
       let f = passed-full s n (full s n) refl (ap not p) in
-      read-back w (withPhase s phase operations) (omega (arith, f .0)) (first-word w) (held-word w)
+      read-back w (withPhase s phase operations) (omega (arith, f .0, counted-most s n (f .0))) (first-word w) (held-word w)
 
   -- whatever the check answers
   close-carried : (answer : Answer) → Carries w (closeBy s answer slot)

@@ -102,7 +102,7 @@ pub fn session(row: &[u8], image: &[u8]) -> Session {
         file: number(row, rows::FILE, 1, 1540) as usize,
         pages: number(row, rows::PAGES, 1, 2) as usize,
         taken,
-        operations: number(row, rows::OPERATIONS, 1, 2) as usize,
+        operations: number(row, rows::OPERATIONS, 1, 3) as usize,
         first,
         held,
     }

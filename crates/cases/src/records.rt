@@ -8,13 +8,14 @@ use case_rows::rows;
 use case_rows::rows::number;
 use case_rows::show;
 
-// The slot of a row. Where the row names a place, that byte is 0, so that its word is not erased.
+// The slot of a row. Where the row names bytes they are 0, so that their word is not erased.
 fn prepare(row: &[u8], image: &[u8], slot: &mut [u8]) {
     let taken = number(row, rows::TAKEN, 1, 0) as usize;
     let len = slot.len();
     case_rows::build::fill(slot, 0, len, 255);
     case_rows::build::copy(slot, 4, octets::part(image, 4, taken / 4 * 4));
-    case_rows::build::set(slot, number(row, rows::DIRTY, 1, 4294967295) as usize, 0);
+    let from = number(row, rows::DIRTY, 1, 0) as usize;
+    case_rows::build::fill(slot, from, number(row, rows::DIRTY, 2, 0) as usize, 0);
 }
 
 // The next bytes of the image.

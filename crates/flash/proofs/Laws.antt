@@ -6,8 +6,8 @@ use mathlib.Core.List.{List, [], _∷_, _++_, append-nil}
 use Prim.Native.Nat.{ℕ, _+_, _*_, _≤_, _<_}
 use native.Mathlib.Omega.{arith}
 use lib.Dec.{eqb}
-use lib.ListN.{length, take, drop, getD, set, length-drop, drop-of-length-le, length-replicate, replicate-append-replicate, List·getD-eq-default}
-use lib.Seq.{sets-eq, drop-drop, take-all}
+use lib.ListN.{length, take, drop, getD, set, length-drop, take-append-drop, drop-of-length-le, length-replicate, replicate-append-replicate, List·getD-eq-default}
+use lib.Seq.{sets-eq, drop-drop, drop-append-add, take-all}
 use borrow.Author.Fill.{fill-more}
 use borrow.Author.Tests.{le-leb, lt-leb}
 use Rattle.flash.specs.Flash.{erasedBytes, firstPageErased, firstWordStored, startsErased}
@@ -32,10 +32,17 @@ pub erased-append : (n m : ℕ) → erasedBytes n ++ erasedBytes m ≡ erasedByt
 unfolding erasedBytes
 erased-append n m = replicate-append-replicate n m 255
 
+-- what stands m past a list of length a
+pub drop-past : (xs ys : List ℕ) (a m : ℕ) → length xs ≡ a → drop (a + m) (xs ++ ys) ≡ drop m ys
+drop-past xs ys a m e = rw (← e) (drop-append-add xs ys m)
+
 -- four erased bytes are an erased word
 pub erased-word : (rest : List ℕ) → startsErased (erasedBytes 4 ++ rest) ≡ true
 unfolding erasedBytes
 erased-word rest = refl
+
+pub word-erased : (b : List ℕ) → take 4 b ≡ erasedBytes 4 → startsErased b ≡ true
+word-erased b e = ap startsErased (sym (take-append-drop 4 b) ∙ ap (λ (v : List ℕ). v ++ drop 4 b) e) ∙ erased-word (drop 4 b)
 
 -- a list of four is its four elements
 four-elements : (w : List ℕ) → length w ≡ 4 → w ≡ getD w 0 0 ∷ getD w 1 0 ∷ getD w 2 0 ∷ getD w 3 0 ∷ []

@@ -1,2 +1,3 @@
 -- The laws that the proofs of flash, and of the crates above it, cite.
 pub mod Laws
+pub mod Interrupted

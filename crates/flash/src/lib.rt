@@ -1,8 +1,10 @@
 // The flash: its two operations, an operation as a value, and the test that a word is erased.
 //
 // `erase_page` and `store_word` take the slot's bytes from the place on where they work, and touch the
-// first page or word of them alone. Each happens wholly or not at all: that is the hardware's promise.
-// An operation as a value is what a board's driver is handed, to make it on the real flash.
+// first page or word of them alone. An operation as a value is what a board's driver is handed, to make
+// it on the real flash. What the power can leave of one that it cuts stands in `specs/`.
+pub mod theorems;
+
 ghost use mathlib.Core.Path.{_≡_};
 ghost use Rattle.flash.specs.Flash.{firstPageErased, firstWordStored, startsErased};
 ghost use Rattle.flash.specs.Operation.{wordOf, bytesOf};
@@ -55,8 +57,8 @@ pub fn erase_page(page: &mut [u8])
     }
 }
 
-// Stores one word. The caller has seen that the word there is erased. Nothing happens to less than a
-// word.
+// Stores one word. The caller has seen that the word there is erased, or stores zero. Nothing happens to
+// less than a word.
 pub fn store_word(at: &mut [u8], w: [u8; 4])
     ensures { λ r. ⌜ now (at .exit) ≡ firstWordStored w (now (at .entry)) ⌝ }
 {

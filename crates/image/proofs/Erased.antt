@@ -1,9 +1,10 @@
--- The two laws on which the installer rests: an erased first word is no magic, and erased bytes behind a file are what a slot's S22 asks while all else reads the file alone.
+-- The two laws on which the installer rests: a first word that is erased or zero is no magic, and erased bytes behind a file are what a slot's S22 asks while all else reads the file alone.
 -- Assumes nothing.
 use Prim.Native.Nat.{ℕ, zero, suc, _+_, _≤_}
 use mathlib.Core.Path.{_≡_, refl, sym, ap, _∙_}
 use mathlib.Core.List.{List, [], _∷_, _++_}
 use mathlib.Core.Bool.{true, false, not}
+use mathlib.Core.Logic.{_⊎_, inl, inr}
 use native.Mathlib.Omega.{arith}
 use lib.ListN.{length, take, replicate, length-append, List·getD-append}
 use lib.Seq.{drop-append-seam}
@@ -19,21 +20,22 @@ use Rattle.header.proofs.Facts.{extent-passes}
 use Rattle.header.proofs.Alike.{image-len-alike, headers-alike}
 use Rattle.image.specs.Answer.{imageOf}
 use Rattle.image.specs.Check.{checkRows, checkSlot}
-use Rattle.image.specs.Theorems.{ErasedWordRefused, AcceptedBeforeErased}
+use Rattle.image.specs.Theorems.{ErasedOrZeroRefused, AcceptedBeforeErased}
 use Rattle.image.specs.declared.Answer.the-variants.{Accepted}
 use Rattle.image.proofs.Facts.{RowsPass, sound, file-rows-pass, file-told, file-length, rows-accepted}
 use Rattle.image.proofs.Alike.{extent-rows-alike, hash-rows-alike, image-of-alike}
 use Rattle.header.proofs.WordApart.{starts-within}
 
--- 255 is not the magic's first letter
-pub erased-magic-missing : (b : List ℕ) → take 4 b ≡ replicate 4 255 → vendorMagicMissing b ≡ true
+-- neither 255 nor 0 is the magic's first letter
+magic-missing : (b : List ℕ) → (take 4 b ≡ replicate 4 255) ⊎ (take 4 b ≡ replicate 4 0) → vendorMagicMissing b ≡ true
 unfolding vendorMagicMissing
-erased-magic-missing [] h = cc
-erased-magic-missing (x ∷ b) h = let e : x ≡ 255 = cc in rw e
+magic-missing [] h = refl
+magic-missing (x ∷ b) (inl h) = let e : x ≡ 255 = cc in rw e
+magic-missing (x ∷ b) (inr h) = let e : x ≡ 0 = cc in rw e
 
-pub erased-word-refused : ErasedWordRefused
+pub erased-or-zero-refused : ErasedOrZeroRefused
 unfolding checkSlot checkRows headerRows firstFailing
-erased-word-refused b given h = rw (erased-magic-missing b h)
+erased-or-zero-refused b given h = rw (magic-missing b h)
 
 -- erased bytes are erased
 pub all-erased : (n : ℕ) → allAre 255 (replicate n 255) ≡ true

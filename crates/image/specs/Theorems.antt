@@ -4,6 +4,7 @@ use Prim.Native.Nat.{ℕ, _+_, _-_, _*_}
 use mathlib.Core.Path.{_≡_}
 use mathlib.Core.List.{List, _++_}
 use mathlib.Core.Bool.{true}
+use mathlib.Core.Logic.{_⊎_}
 use lib.ListN.{length, take, drop, replicate}
 use Rattle.octets.specs.Read.{allAre}
 use Rattle.header.specs.Layout.{keyCount, stringLen, pictureStart, imageLen}
@@ -17,9 +18,10 @@ use Rattle.image.specs.Chunks.{codeOf}
 use Rattle.image.specs.Check.{checkFile, checkSlot}
 use Rattle.image.specs.Parts.{stringOf, pictureOf, whenAccepted}
 
--- a slot whose first word is erased is refused with number 1, for any inputs
-abbrev pub ErasedWordRefused : Type 0
-ErasedWordRefused = (b : List ℕ) (given : Inputs) → take 4 b ≡ replicate 4 255 → checkSlot b given ≡ Rejected (refusal 1 1)
+-- a slot whose first word is erased, or zero, is refused with number 1, for any inputs
+abbrev pub ErasedOrZeroRefused : Type 0
+ErasedOrZeroRefused =
+    (b : List ℕ) (given : Inputs) → (take 4 b ≡ replicate 4 255) ⊎ (take 4 b ≡ replicate 4 0) → checkSlot b given ≡ Rejected (refusal 1 1)
 
 -- what the file check accepts, the slot check accepts with the same inputs when erased bytes follow, and tells the same
 abbrev pub AcceptedBeforeErased : Type 0

@@ -1,9 +1,9 @@
 // What is shown of the checks, each as the promise of a function with an empty body.
-ghost use Rattle.image.specs.Theorems.{ErasedWordRefused, AcceptedBeforeErased, AcceptedParts, AcceptedIsSigned};
+ghost use Rattle.image.specs.Theorems.{ErasedOrZeroRefused, AcceptedBeforeErased, AcceptedParts, AcceptedIsSigned};
 
-// An erased first word makes the slot check refuse with number 1, for any inputs.
-pub fn erased_word_is_refused()
-    ensures { λ r. ⌜ ErasedWordRefused ⌝ }
+// A first word that is erased, or zero, makes the slot check refuse with number 1, for any inputs.
+pub fn erased_or_zero_is_refused()
+    ensures { λ r. ⌜ ErasedOrZeroRefused ⌝ }
 {}
 
 // What the file check accepts, the slot check accepts when erased bytes follow.

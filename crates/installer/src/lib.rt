@@ -1,10 +1,10 @@
 // The installer: begin, erase, fill, ask and close, over the one slot of flash.
 //
 // A session's record goes in by value and comes back. Any record may come in: one that no session
-// reaches is refused with 19. Each call makes at most one operation of the flash. If that happens
-// wholly or not at all, a power cut has the effect of one between two calls. The file's first word
-// stays in the record until it is stored as the last operation of all: until then the slot starts
-// erased, and the boot check refuses it.
+// reaches is refused with 19. Each call makes at most one operation of the flash. The first erase
+// stores zero in word 0, and the file's first word stays in the record until it is stored as the last
+// operation of all: in between the slot starts with zero or erased, also where the power cuts an
+// erase, and the boot check refuses it.
 //
 // The calls here write a slot in memory. Those of `plans` read the slot and hand the operation back.
 pub mod plans;
@@ -39,8 +39,7 @@ use signing::places::vendor_signature_word_apart;
 use signing::vendor_digest_word_apart;
 ghost use mathlib.Core.Path.{_≡_};
 ghost use lib.ListN.{length};
-ghost use Rattle.flash.specs.Operation.{performed, bytesOf};
-ghost use Rattle.flash.specs.Flash.{firstPageErased, firstWordStored};
+ghost use Rattle.flash.specs.Operation.{performed};
 ghost use Rattle.header.specs.Outcome as outcome;
 ghost use Rattle.sessions.specs.Reply.{told};
 ghost use Rattle.sessions.specs.Calls.{beginOf, eraseOf, eraseSlot, fillOf, fillSlot, noDigest, askOf, signaturesOf, turnOf, closeOf, closeSlot};
@@ -122,7 +121,7 @@ fn turn_of(p: Plan) -> Turn
     }
 }
 
-// Erases the next page.
+// Stores zero in word 0 the first time, and erases the next page from then on.
 pub fn erase(s: Session, slot: &mut [u8]) -> Turn
     ensures { λ r. ⌜ (r ≡ eraseOf s (now (slot .entry))) × (now (slot .exit) ≡ eraseSlot s (now (slot .entry))) ⌝ }
     ensures told { λ r. ⌜ told (r .reply) ≡ told (eraseOf s (now (slot .entry)) .reply) ⌝ }

@@ -41,7 +41,7 @@ fn refused(s: Session, number: u32) -> Plan
     }
 }
 
-// The next page is to be erased.
+// Zero is to be stored in word 0, whatever stands there; after that the next page is to be erased.
 pub fn plan_erase(s: Session, slot: &[u8]) -> Plan
     ensures { λ r. ⌜ r ≡ erasePlan s (now (slot .entry)) ⌝ }
     ensures told { λ r. ⌜ told (r .reply) ≡ told (erasePlan s (now (slot .entry)) .reply) ⌝ }
@@ -52,8 +52,15 @@ pub fn plan_erase(s: Session, slot: &[u8]) -> Plan
         return refused(s, 19);
     }
     let mut t = s;
-    t.pages = s.pages + 1;
     t.operations = s.operations + 1;
+    if s.operations == 0 {
+        return Plan {
+            session: t,
+            reply: Reply::Erased,
+            operation: Operation::StoreWord(0, word_of([0; 4])),
+        };
+    }
+    t.pages = s.pages + 1;
     Plan {
         session: t,
         reply: Reply::Erased,

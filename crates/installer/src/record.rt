@@ -17,7 +17,7 @@ pub fn file_len_right(n: usize, f: usize) -> bool
     (f % 4 == 0) & ((1540 <= f) & (f <= n))
 }
 
-// A record with no page erased and no byte taken.
+// A record with nothing done.
 pub fn new_record(phase: u32, n: usize, f: usize) -> Session
     ensures { λ r. ⌜ r ≡ newRecord phase n f ⌝ }
 {
@@ -64,7 +64,8 @@ pub fn sound(s: Session, n: usize) -> bool
                 & (file_len_right(n, s.file)
                     & (((s.pages == all) | (s.taken == 0))
                         & ((s.taken <= s.file)
-                            & (s.operations == s.pages + words_stored(s.taken)))))))
+                            & ((s.operations == s.pages + words_stored(s.taken) + 1)
+                                | ((s.operations == 0) & (s.pages == 0))))))))
 }
 
 // Whether all pages are erased and all bytes taken.
@@ -83,5 +84,5 @@ pub fn waiting(s: Session, n: usize) -> bool
             & (slot_len_right(n)
                 & (file_len_right(n, s.file)
                     & ((s.pages == n / 4096)
-                        & ((s.taken == s.file) & (s.operations == n / 4096 + s.file / 4))))))
+                        & ((s.taken == s.file) & (s.operations == n / 4096 + s.file / 4 + 1))))))
 }

@@ -1,6 +1,6 @@
 // What the signer does at its next start, and the table that tells it: a line for each run of calls
 // after which it is the same. Every number printed is counted or answered; of text are only the
-// lengths of slot and file, which their types fix.
+// lengths of slot and file, which their types fix, and the version that is put back.
 use header::Inputs;
 use image::Answer;
 use image::check_file;
@@ -110,6 +110,20 @@ pub fn print_heading(slot: &[u8], file: &[u8]) {
     );
 }
 
+// The heads of the table of cuts inside an erase.
+pub fn print_cuts_heading() {
+    text(b"\nVersion 1.0.0 is put back, and the power fails inside the erase of a page.\n\n");
+    text(b"erased by then, in erase          the next start\n");
+}
+
+// The heads of the table of a session over a page that was left half erased.
+pub fn print_again_heading() {
+    text(
+        b"\nIt fails inside erase 2, which leaves the odd words erased. A new session follows.\n\n",
+    );
+    text(b"if the power fails after          the next start\n");
+}
+
 fn second_column(start: Start) {
     tell(b"starts ", b"refuses with ", start, b"\n");
 }
@@ -120,10 +134,10 @@ pub fn print_once(name: &[u8], slot: &[u8]) {
     second_column(next_start(slot));
 }
 
-// The run before the first call of its kind.
-pub fn no_calls(slot: &[u8]) -> Run {
+// The run before the first call of its kind, which has this number.
+pub fn no_calls(first: usize, slot: &[u8]) -> Run {
     Run {
-        first: 1,
+        first,
         last: 0,
         start: next_start(slot),
     }

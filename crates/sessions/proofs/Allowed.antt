@@ -9,36 +9,41 @@ use lib.Dec.{eqb}
 use lib.ListN.{length, take, drop}
 use borrow.Author.Tests.{le-leb, lt-leb, eq-eqb, ne-eqb, eqb-true}
 use Rattle.flash.specs.Flash.{erasedBytes, startsErased}
-use Rattle.sessions.specs.Record.{pagesOf, erasing, filling, full, waiting}
+use Rattle.flash.proofs.Laws.{word-erased}
+use Rattle.sessions.specs.Record.{pagesOf, untouched, erasing, filling, full, waiting}
 use Rattle.sessions.specs.Calls.{fileIn}
 use Rattle.sessions.specs.Run.{Point, allGiven, holding}
 use Rattle.sessions.proofs.Facts.{sound-test, not-sound, not-waiting}
-use Rattle.sessions.proofs.Slot.{length-pages, holding-first, length-holding, word-erased, holding-file}
-use Rattle.sessions.proofs.Phases.{Erasing, Filling}
+use Rattle.sessions.proofs.Slot.{holding-first, length-holding, holding-file}
+use Rattle.sessions.proofs.Phases.{Early, Begun, Erasing, Filling}
 
 module _ (found : List ℕ) (f : ℕ) where
-  -- ---- while pages are erased
+  -- ---- while pages are to be erased
 
-  pub erasing-length : (p : Point) → Erasing found f p → length (p .now .slot) ≡ length found
-  erasing-length p e = ap length (e .slot) ∙ length-pages (p .past .erases) found (omega (arith, e .fewer))
-
-  pub erase-allowed : (p : Point) → Erasing found f p → erasing (p .now .session) (length (p .now .slot)) ≡ true
+  pub erase-allowed : (p : Point) → Early found f p → erasing (p .now .session) (length (p .now .slot)) ≡ true
   erase-allowed p e =
-      rw (erasing-length p e, sound-test (p .now .session) (length found) (e .sound))
-      (le-leb (p .now .session .pages + 1) (pagesOf (length found)) (omega (arith, e .fewer, e .pages)))
+      rw (e .long, sound-test (p .now .session) (length found) (e .sound))
+      (le-leb (p .now .session .pages + 1) (pagesOf (length found)) (omega (arith, e .fewer)))
 
-  pub fill-too-early : (p : Point) → Erasing found f p → filling (p .now .session) (length (p .now .slot)) ≡ false
+  pub fill-too-early : (p : Point) → Early found f p → filling (p .now .session) (length (p .now .slot)) ≡ false
   fill-too-early p e =
-      rw (erasing-length p e, sound-test (p .now .session) (length found) (e .sound))
-      (ne-eqb (p .now .session .pages) (pagesOf (length found)) (λ k. omega (arith, e .fewer, e .pages)))
+      rw (e .long, sound-test (p .now .session) (length found) (e .sound))
+      (ne-eqb (p .now .session .pages) (pagesOf (length found)) (λ k. omega (arith, e .fewer)))
 
-  pub close-too-early : (p : Point) → Erasing found f p → full (p .now .session) (length (p .now .slot)) ≡ false
+  pub close-too-early : (p : Point) → Early found f p → full (p .now .session) (length (p .now .slot)) ≡ false
   close-too-early p e =
       rw (
-        erasing-length p e,
+        e .long,
         sound-test (p .now .session) (length found) (e .sound),
-        ne-eqb (p .now .session .pages) (pagesOf (length found)) (λ k. omega (arith, e .fewer, e .pages)),
+        ne-eqb (p .now .session .pages) (pagesOf (length found)) (λ k. omega (arith, e .fewer)),
       )
+
+  -- the first Erase finds that nothing is done, and no other does
+  pub first-erase : (p : Point) → Begun found f p → untouched (p .now .session) ≡ true
+  first-erase p e = eq-eqb (p .now .session .operations) 0 (e .operations)
+
+  pub later-erase : (p : Point) → Erasing found f p → untouched (p .now .session) ≡ false
+  later-erase p e = ne-eqb (p .now .session .operations) 0 (λ k. omega (arith, e .operations))
 
   -- ---- while the file is filled in
 

@@ -5,11 +5,12 @@ use mathlib.Core.Bool.{Bool, true, false, not, _&&_, _||_, and-false, false≢tr
 use mathlib.Core.Logic.{_⊎_, inl, inr, ⊎-elim}
 use mathlib.Core.List.{List, [], _∷_}
 use Prim.Native.Nat.{ℕ, _+_, _/_, _%_, _≤_}
+use native.Mathlib.Omega.{arith}
 use lib.Dec.{eqb, leb}
 use borrow.Author.Tests.{eqb-true, leb-true, eq-eqb, le-leb, not-true, not-false}
 use Rattle.octets.specs.Rounding.{multipleOf}
 use Rattle.octets.proofs.Laws.{and-left, and-right}
-use Rattle.sessions.specs.Record.{slotLenRight, fileLenRight, pagesOf, wordsStored, sound, full, waiting}
+use Rattle.sessions.specs.Record.{slotLenRight, fileLenRight, pagesOf, wordsStored, untouched, counted, sound, full, waiting}
 use Rattle.sessions.specs.declared.Session.{Session}
 
 -- the lengths are those that begin takes
@@ -29,7 +30,7 @@ pub record Sound (s : Session) (n : ℕ) : Type 0 where
   pub lengths : Lengths n (s .file)
   pub order : (s .pages ≡ pagesOf n) ⊎ (s .taken ≡ 0)
   pub taken : s .taken ≤ s .file
-  pub operations : s .operations ≡ s .pages + wordsStored (s .taken)
+  pub operations : (s .operations ≡ s .pages + wordsStored (s .taken) + 1) ⊎ ((s .operations ≡ 0) × (s .pages ≡ 0))
 
 -- ---- a conjunction as the list of its tests
 
@@ -102,8 +103,18 @@ soundTests s n =
     ∷ fileLenRight n (s .file)
     ∷ orderTest s n
     ∷ leb (s .taken) (s .file)
-    ∷ eqb (s .operations) (s .pages + wordsStored (s .taken))
+    ∷ counted s
     ∷ []
+
+counted-facts : (s : Session) → counted s ≡ true → (s .operations ≡ s .pages + wordsStored (s .taken) + 1) ⊎ ((s .operations ≡ 0) × (s .pages ≡ 0))
+counted-facts s e =
+    ⊎-elim (λ p. inl (eqb-true _ _ p)) (λ p. inr (eqb-true _ _ (and-left (untouched s) (eqb (s .pages) 0) p), eqb-true _ _ (and-right (untouched s) (eqb (s .pages) 0) p)))
+    (or-cases (eqb (s .operations) (s .pages + wordsStored (s .taken) + 1)) (untouched s && eqb (s .pages) 0) e)
+
+counted-test : (s : Session) → (s .operations ≡ s .pages + wordsStored (s .taken) + 1) ⊎ ((s .operations ≡ 0) × (s .pages ≡ 0)) → counted s ≡ true
+counted-test s h =
+    either (eqb (s .operations) (s .pages + wordsStored (s .taken) + 1)) (untouched s && eqb (s .pages) 0)
+    (⊎-elim (λ p. inl (eq-eqb _ _ p)) (λ p. inr (every-of (untouched s ∷ eqb (s .pages) 0 ∷ []) (eq-eqb _ _ (p .0), (eq-eqb _ _ (p .1), tt)))) h)
 
 pub sound-facts : (s : Session) (n : ℕ) → sound s n ≡ true → Sound s n
 unfolding sound
@@ -116,7 +127,7 @@ sound-facts s n e =
       lengths = lengths-facts n (s .file) (h .1 .1 .1 .0) (h .1 .1 .1 .1 .0);
       order = ⊎-elim (λ p. inl (eqb-true _ _ p)) (λ p. inr (eqb-true _ _ p)) (or-cases (eqb (s .pages) (pagesOf n)) (eqb (s .taken) 0) (h .1 .1 .1 .1 .1 .0));
       taken = leb-true _ _ (h .1 .1 .1 .1 .1 .1 .0);
-      operations = eqb-true _ _ (h .1 .1 .1 .1 .1 .1 .1 .0);
+      operations = counted-facts s (h .1 .1 .1 .1 .1 .1 .1 .0);
     }
 
 pub sound-test : (s : Session) (n : ℕ) → Sound s n → sound s n ≡ true
@@ -125,8 +136,17 @@ sound-test s n f =
     let l = lengths-tests n (s .file) (f .lengths) in
     let order : orderTest s n ≡ true =
     either (eqb (s .pages) (pagesOf n)) (eqb (s .taken) 0) (⊎-elim (λ p. inl (eq-eqb _ _ p)) (λ p. inr (eq-eqb _ _ p)) (f .order)) in
-    let last : Each (leb (s .taken) (s .file) ∷ eqb (s .operations) (s .pages + wordsStored (s .taken)) ∷ []) = (le-leb _ _ (f .taken), (eq-eqb _ _ (f .operations), tt)) in
+    let last : Each (leb (s .taken) (s .file) ∷ counted s ∷ []) = (le-leb _ _ (f .taken), (counted-test s (f .operations), tt)) in
     every-of (soundTests s n) (le-leb _ _ (f .pages), (eq-eqb _ _ (f .phase), (eq-eqb _ _ (f .slot), (l .0, (l .1, (order, last))))))
+
+-- where no operation was made no page is erased
+pub counted-none : (s : Session) (n : ℕ) → Sound s n → s .operations ≡ 0 → s .pages ≡ 0
+counted-none s n f h = ⊎-elim (λ p. absurd (omega (arith, p))) (λ p. p .1) (f .operations)
+
+-- the count is small
+pub counted-most : (s : Session) (n : ℕ) → Sound s n → s .operations ≤ 524800
+counted-most s n f =
+    ⊎-elim (λ p. omega (arith, p, f .pages, f .taken, f .lengths .fileMost, f .lengths .slotMost)) (λ p. omega (arith, p .0)) (f .operations)
 
 -- ---- the tests of `waiting`
 
@@ -138,7 +158,7 @@ waitingTests s n =
     ∷ fileLenRight n (s .file)
     ∷ eqb (s .pages) (pagesOf n)
     ∷ eqb (s .taken) (s .file)
-    ∷ eqb (s .operations) (pagesOf n + s .file / 4)
+    ∷ eqb (s .operations) (pagesOf n + s .file / 4 + 1)
     ∷ []
 
 -- the record is that of an accepted session, and consistent with a slot of n bytes
@@ -147,7 +167,7 @@ pub record Waits (s : Session) (n : ℕ) : Type 0 where
   pub lengths : Lengths n (s .file)
   pub pages : s .pages ≡ pagesOf n
   pub taken : s .taken ≡ s .file
-  pub operations : s .operations ≡ pagesOf n + s .file / 4
+  pub operations : s .operations ≡ pagesOf n + s .file / 4 + 1
 
 pub waiting-facts : (s : Session) (n : ℕ) → waiting s n ≡ true → Waits s n
 unfolding waiting
@@ -162,7 +182,7 @@ waiting-facts s n e =
     }
 
 pub waiting-test : (s : Session) (n : ℕ) → s .phase ≡ 2 → s .slot ≡ n → Lengths n (s .file) → s .pages ≡ pagesOf n → s .taken ≡ s .file
-    → s .operations ≡ pagesOf n + s .file / 4 → waiting s n ≡ true
+    → s .operations ≡ pagesOf n + s .file / 4 + 1 → waiting s n ≡ true
 unfolding waiting
 waiting-test s n phase slot lengths pages taken operations =
     let l = lengths-tests n (s .file) lengths in

@@ -7,7 +7,7 @@ use mathlib.Core.Logic.{inl}
 use Prim.Native.Nat.{ℕ, _+_, _%_, _≤_, _<_}
 use native.Mathlib.Omega.{arith}
 use lib.Dec.{eqb, ltb}
-use borrow.Author.Tests.{ltb-true, ltb-false, lt-ltb, le-ltb, le-leb, eqb-true, eq-eqb, ne-eqb}
+use borrow.Author.Tests.{ltb-true, ltb-false, lt-ltb, le-ltb, eqb-true, eq-eqb, ne-eqb}
 use lib.ListN.{length, take, drop, length-append}
 use lib.Seq.{drop-length, take-all, take-append-le, drop-append-le, length-take-le, paste, take-paste, length-paste}
 use Rattle.flash.specs.Flash.{startsErased}
@@ -98,6 +98,7 @@ module _ (found : List ℕ) (f : ℕ) (p : Point) (e : Filling found f p) (piece
     touched = e .touched;
     enough = e .enough;
     pages = e .pages;
+    operations = rw (length-given, counted, e .operations) (omega arith);
     taken = ap (λ (j : ℕ). j + k) (e .taken) ∙ sym length-given;
     file = e .file;
     sound = record {
@@ -107,7 +108,7 @@ module _ (found : List ℕ) (f : ℕ) (p : Point) (e : Filling found f p) (piece
       lengths = e .sound .lengths;
       order = inl (e .pages);
       taken = omega (arith, e .taken, e .file);
-      operations = rw (e .taken, counted, e .sound .operations, e .taken) (omega arith);
+      operations = inl (rw (e .taken, counted, e .operations, e .pages) (omega arith));
     };
     slot = held;
     first = opened;
@@ -171,7 +172,7 @@ module _ (found : List ℕ) (f : ℕ) where
       let in-word : length (p .past .given) % 4 + k ≤ 4 = omega (arith, e .taken) in
       let in-piece : k ≤ length piece = omega arith in
       let in-file : length (p .past .given) + k ≤ f = omega (arith, e .taken, e .file, e .sound .taken) in
-      rw (e .isOpen, le-leb (pagesOf (length found)) (p .past .erases) (e .enough), takes-same p e piece) (fill-takes found f p e piece k in-word in-piece in-file)
+      rw (e .isOpen, lt-ltb (pagesOf (length found)) (p .past .erases) (e .enough), takes-same p e piece) (fill-takes found f p e piece k in-word in-piece in-file)
 
   -- what it answers: by the rule, with none refused
   answers-took : (p : Point) → Filling found f p → (k : ℕ) (w : List ℕ) → length (p .past .given) + k ≤ f

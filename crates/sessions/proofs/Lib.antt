@@ -6,5 +6,7 @@ pub mod Phases
 pub mod Allowed
 pub mod Steps
 pub mod Fills
+pub mod Kept
+pub mod Cuts
 pub mod Landing
 pub mod Settled

@@ -3,15 +3,17 @@
 use mathlib.Core.Path.{_≡_, refl, sym, ap, _∙_}
 use mathlib.Core.List.{List, [], _∷_, _++_, append-assoc, append-nil}
 use mathlib.Core.Bool.{true}
-use Prim.Native.Nat.{ℕ, _+_, _-_, _*_, _/_, _%_, _≤_, max}
+use mathlib.Core.Logic.{_⊎_, inl, inr}
+use Prim.Native.Nat.{ℕ, zero, suc, _+_, _-_, _*_, _%_, _≤_, max}
 use native.Mathlib.Omega.{arith}
 use lib.ListN.{length, take, drop, length-append, length-take, length-drop, take-append-drop, drop-of-length-le}
-use lib.Seq.{take-at, drop-at, drop-drop, drop-length, take-all, take-append-le, drop-append-le, drop-append-add}
+use lib.Seq.{take-at, drop-at, drop-drop, drop-length, take-all, take-append-le, drop-append-le}
 use borrow.Author.Tests.{eq-eqb}
 use Rattle.octets.specs.Read.{startsWith}
 use Rattle.flash.specs.Flash.{erasedBytes, startsErased}
-use Rattle.flash.proofs.Laws.{length-erased, erased-none, erased-append, erased-word, pageErased, wordStored}
-use Rattle.sessions.specs.Run.{pagesErased, wholeWords, holding}
+use Rattle.flash.proofs.Laws.{length-erased, erased-none, erased-append, drop-past, erased-word, pageErased, wordStored}
+use Rattle.sessions.specs.Record.{noWord}
+use Rattle.sessions.specs.Run.{invalidated, pagesErased, wholeWords, holding}
 
 pub erased-split : (k n : ℕ) → k ≤ n → erasedBytes n ≡ erasedBytes k ++ erasedBytes (n - k)
 erased-split k n h = let e : n ≡ k + (n - k) = omega arith in ap erasedBytes e ∙ sym (erased-append k (n - k))
@@ -19,15 +21,22 @@ erased-split k n h = let e : n ≡ k + (n - k) = omega arith in ap erasedBytes e
 pub drop-erased : (k n : ℕ) → k ≤ n → drop k (erasedBytes n) ≡ erasedBytes (n - k)
 drop-erased k n h = rw (erased-split k n h) (drop-at (erasedBytes k) (erasedBytes (n - k)) k (length-erased k))
 
--- a slot whose first four bytes are erased starts erased
-pub word-erased : (xs : List ℕ) → take 4 xs ≡ erasedBytes 4 → startsErased xs ≡ true
-word-erased xs e = ap startsErased (sym (take-append-drop 4 xs) ∙ ap (λ (v : List ℕ). v ++ drop 4 xs) e) ∙ erased-word (drop 4 xs)
-
 pub erased-starts : (n : ℕ) → 4 ≤ n → startsErased (erasedBytes n) ≡ true
 erased-starts n h = ap startsErased (erased-split 4 n h) ∙ erased-word (erasedBytes (n - 4))
 
-drop-past : (xs ys : List ℕ) (a m : ℕ) → length xs ≡ a → drop (a + m) (xs ++ ys) ≡ drop m ys
-drop-past xs ys a m e = rw (← e) (drop-append-add xs ys m)
+-- ---- zero in word 0
+
+pub invalidated-first : (found : List ℕ) → take 4 (invalidated found) ≡ noWord
+unfolding invalidated
+invalidated-first found = refl
+
+pub length-invalidated : (found : List ℕ) → 4 ≤ length found → length (invalidated found) ≡ length found
+unfolding invalidated
+length-invalidated found h = simp length-drop (omega arith)
+
+pub zero-stored : (found : List ℕ) → wordStored 0 noWord found ≡ invalidated found
+unfolding invalidated
+zero-stored found = refl
 
 -- ---- pages erased
 
@@ -45,6 +54,11 @@ unfolding pagesErased
 pages-first p found h =
     rw (erased-split 4 (p * 4096) h, append-assoc (erasedBytes 4) (erasedBytes (p * 4096 - 4)) (drop (p * 4096) found))
     (take-at (erasedBytes 4) (erasedBytes (p * 4096 - 4) ++ drop (p * 4096) found) 4 (length-erased 4))
+
+-- the first word is zero before it, and erased from then on
+pub pages-hidden : (p : ℕ) (found : List ℕ) → (take 4 (pagesErased p (invalidated found)) ≡ erasedBytes 4) ⊎ (take 4 (pagesErased p (invalidated found)) ≡ noWord)
+pages-hidden zero found = inr (ap (take 4) (no-page (invalidated found)) ∙ invalidated-first found)
+pages-hidden (suc p) found = inl (pages-first (suc p) (invalidated found) (omega arith))
 
 -- page p makes them p + 1
 pub page-more : (p : ℕ) (found : List ℕ) → pageErased p (pagesErased p found) ≡ pagesErased (p + 1) found

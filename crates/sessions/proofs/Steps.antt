@@ -1,16 +1,15 @@
--- Erase, Close and Confirm keep to a phase: the last page leads from erasing to filling, and Close with all bytes given ends the session, or has it wait
+-- Erase, Close and Confirm keep to a phase: the first Erase leads from begin to erasing, the last page from erasing to filling, and Close with all bytes given ends the session, or has it wait
 -- for Confirm.
 -- Assumes nothing.
 use mathlib.Core.Path.{_≡_, refl, sym, ap, _∙_}
 use mathlib.Core.List.{List, _++_}
 use mathlib.Core.Bool.{Bool, true, false}
-use mathlib.Core.Logic.{inr}
+use mathlib.Core.Logic.{inl, inr}
 use Prim.Native.Nat.{ℕ, _+_, _-_, _*_, _≤_}
 use native.Mathlib.Omega.{arith}
 use lib.Dec.{ltb}
-use borrow.Author.Tests.{ltb-true, ltb-false, eqb-true, lt-ltb, le-leb, ne-eqb}
-use lib.ListN.{length, take, length-append, length-take}
-use Rattle.octets.specs.Read.{startsWith}
+use borrow.Author.Tests.{ltb-true, ltb-false, eqb-true, lt-ltb, ne-eqb}
+use lib.ListN.{length, length-append, length-take}
 use Rattle.octets.proofs.Rounding.{whole-times}
 use Rattle.flash.specs.Flash.{erasedBytes}
 use Rattle.flash.specs.Operation.{wordOf, performed}
@@ -20,30 +19,72 @@ use Rattle.header.specs.declared.Inputs.{Inputs}
 use Rattle.image.specs.Check.{checkFile}
 use Rattle.image.specs.declared.Answer.{Answer}
 use Rattle.image.specs.declared.Answer.the-variants.{Accepted, Rejected}
-use Rattle.sessions.specs.Record.{pagesOf, withPage, withPhase, over, accepted}
+use Rattle.sessions.specs.Record.{pagesOf, noWord, withPage, withPhase, over, accepted}
 use Rattle.sessions.specs.Calls.{fileIn}
-use Rattle.sessions.specs.Run.{eraseCall, closeCall, planCloseCall, confirmCall, History, State, Point, advance, eraseAnswer, closeAnswer, planCloseAnswer, confirmAnswer, allGiven, pagesErased}
+use Rattle.sessions.specs.Run.{eraseCall, closeCall, planCloseCall, confirmCall, Point, advance, eraseAnswer, closeAnswer, planCloseAnswer, confirmAnswer, allGiven, invalidated, pagesErased}
 use Rattle.sessions.specs.declared.Session.{Session}
 use Rattle.sessions.proofs.Facts.{Sound, waiting-test}
-use Rattle.sessions.proofs.Slot.{page-more, pages-all, holding-none, holding-landed, starts-own}
-use Rattle.sessions.proofs.Phases.{NotStored, Erasing, Filling, Over, Stored, Ended, Waiting, Phase, inErasing, inFilling, isOver, isWaiting, hasEnded, stays-close, stays-plan-close}
-use Rattle.sessions.proofs.Allowed.{erasing-length, erase-allowed, filling-length, erase-too-late, close-before-last, close-allowed, slot-starts-erased, first-word-given, first-word-fits}
+use Rattle.sessions.proofs.Slot.{length-invalidated, zero-stored, no-page, length-pages, page-more, pages-all, holding-none, holding-landed, starts-own}
+use Rattle.sessions.proofs.Phases.{NotStored, Early, Begun, Erasing, Filling, Over, Stored, Waiting, Phase, inErasing, inFilling, isOver, isWaiting, hasEnded, stays-close, stays-plan-close}
+use Rattle.sessions.proofs.Allowed.{erase-allowed, first-erase, later-erase, filling-length, erase-too-late, close-before-last, close-allowed, slot-starts-erased, first-word-given, first-word-fits}
 
 module _ (found : List ℕ) (f : ℕ) where
-  -- ---- while pages are erased
+  -- ---- while pages are to be erased
+
+  -- the first Erase stores zero in word 0
+  pub zero-made : (p : Point) → Begun found f p → performed (StoreWord 0 (wordOf noWord)) (p .now .slot) ≡ invalidated found
+  zero-made p e = performed-word 0 noWord (p .now .slot) refl (omega (arith, e .early .long, e .early .sound .lengths .slotLeast)) ∙ rw (e .slot) (zero-stored found)
+
+  pub erase-begun : (p : Point) → Begun found f p → Phase found f (advance (length found) f eraseCall p)
+  erase-begun p e = rw (e .early .isOpen, eraseAnswer, erase-allowed found f p (e .early), first-erase found f p e) (inErasing (record {
+    early = record {
+      isOpen = refl;
+      notStored = record { stored = e .early .notStored .stored; waiting = e .early .notStored .waiting; done = e .early .notStored .done };
+      given = e .early .given;
+      fewer = e .early .fewer;
+      taken = e .early .taken;
+      file = e .early .file;
+      sound = record {
+        pages = e .early .sound .pages;
+        phase = e .early .sound .phase;
+        slot = e .early .sound .slot;
+        lengths = e .early .sound .lengths;
+        order = inr (e .early .taken);
+        taken = e .early .sound .taken;
+        operations = inl (omega (arith, e .operations, e .pages, e .early .taken));
+      };
+      held = e .early .held;
+      long = ap length (zero-made p e) ∙ length-invalidated found (omega (arith, e .early .sound .lengths .slotLeast));
+    };
+    touched = refl;
+    erases = omega (arith, e .erases, e .pages);
+    operations = omega (arith, e .operations, e .pages);
+    slot = zero-made p e ∙ sym (ap (λ (k : ℕ). pagesErased k (invalidated found)) (e .pages) ∙ no-page (invalidated found));
+  }))
+
+  -- the page that is next lies in the slot
+  pub page-inside : (p : Point) → Erasing found f p → p .now .session .pages * 4096 + 4096 ≤ length (p .now .slot)
+  page-inside p e = omega (arith, e .early .long, e .early .fewer)
 
   -- one page more is erased
-  pub page-erased : (p : Point) → Erasing found f p → performed (ErasePage (p .now .session .pages)) (p .now .slot) ≡ pagesErased (p .past .erases + 1) found
-  page-erased p e =
-      performed-page (p .now .session .pages) (p .now .slot) (omega (arith, erasing-length found f p e, e .pages, e .fewer))
-      ∙ rw (e .pages, e .slot) (page-more (p .past .erases) found)
+  pub page-erased : (p : Point) → Erasing found f p
+      → performed (ErasePage (p .now .session .pages)) (p .now .slot) ≡ pagesErased (p .now .session .pages + 1) (invalidated found)
+  page-erased p e = performed-page (p .now .session .pages) (p .now .slot) (page-inside p e) ∙ rw (e .slot) (page-more (p .now .session .pages) (invalidated found))
+
+  found-long : (p : Point) → Erasing found f p → length (invalidated found) ≡ length found
+  found-long p e = length-invalidated found (omega (arith, e .early .sound .lengths .slotLeast))
 
   -- with the last page every byte is
-  pub last-page : (p : Point) → Erasing found f p → p .past .erases + 1 ≡ pagesOf (length found) → pagesErased (p .past .erases + 1) found ≡ erasedBytes (length found)
-  last-page p e h = pages-all (p .past .erases + 1) found (ap (λ (k : ℕ). k * 4096) h ∙ whole-times 4096 (length found) (e .sound .lengths .slotWhole))
+  pub last-page : (p : Point) → Erasing found f p → p .now .session .pages + 1 ≡ pagesOf (length found)
+      → pagesErased (p .now .session .pages + 1) (invalidated found) ≡ erasedBytes (length found)
+  last-page p e h =
+      pages-all (p .now .session .pages + 1) (invalidated found)
+      (ap (λ (k : ℕ). k * 4096) h ∙ whole-times 4096 (length found) (e .early .sound .lengths .slotWhole) ∙ sym (found-long p e))
+      ∙ ap erasedBytes (found-long p e)
 
   pub erase-erasing : (p : Point) → Erasing found f p → Phase found f (advance (length found) f eraseCall p)
-  erase-erasing p e = rw (e .isOpen, eraseAnswer, erase-allowed found f p e) (go (ltb (p .past .erases + 1) (pagesOf (length found))) refl)
+  erase-erasing p e =
+      rw (e .early .isOpen, eraseAnswer, erase-allowed found f p (e .early), later-erase found f p e) (go (ltb (p .now .session .pages + 1) (pagesOf (length found))) refl)
     where
       s : Session
       s = withPage (p .now .session)
@@ -56,53 +97,58 @@ module _ (found : List ℕ) (f : ℕ) where
           }
 
       notStored′ : NotStored q
-      notStored′ = record { stored = e .notStored .stored; waiting = e .notStored .waiting; done = e .notStored .done }
+      notStored′ = record { stored = e .early .notStored .stored; waiting = e .early .notStored .waiting; done = e .early .notStored .done }
 
       sound′ : Sound s (length found)
       sound′ =
           record {
-            pages = omega (arith, e .fewer, e .pages);
-            phase = e .sound .phase;
-            slot = e .sound .slot;
-            lengths = e .sound .lengths;
-            order = inr (e .taken);
-            taken = e .sound .taken;
-            operations = omega (arith, e .sound .operations);
+            pages = omega (arith, e .early .fewer);
+            phase = e .early .sound .phase;
+            slot = e .early .sound .slot;
+            lengths = e .early .sound .lengths;
+            order = inr (e .early .taken);
+            taken = e .early .sound .taken;
+            operations = inl (omega (arith, e .operations, e .early .taken));
           }
 
-      go : (b : Bool) → ltb (p .past .erases + 1) (pagesOf (length found)) ≡ b → Phase found f q
+      go : (b : Bool) → ltb (p .now .session .pages + 1) (pagesOf (length found)) ≡ b → Phase found f q
       go true h = inErasing (record {
-        isOpen = refl;
-        notStored = notStored′;
-        given = e .given;
-        touched = sym (lt-ltb 0 (p .past .erases + 1) (omega arith));
-        fewer = ltb-true _ _ h;
-        pages = ap (λ (k : ℕ). k + 1) (e .pages);
-        taken = e .taken;
-        file = e .file;
-        sound = sound′;
+        early = record {
+          isOpen = refl;
+          notStored = notStored′;
+          given = e .early .given;
+          fewer = ltb-true _ _ h;
+          taken = e .early .taken;
+          file = e .early .file;
+          sound = sound′;
+          held = e .early .held;
+          long = ap length (page-erased p e) ∙ length-pages (p .now .session .pages + 1) (invalidated found) (omega (arith, e .early .fewer, found-long p e)) ∙ found-long p e;
+        };
+        touched = refl;
+        erases = omega (arith, e .erases);
+        operations = omega (arith, e .operations);
         slot = page-erased p e;
-        held = e .held;
       })
       go false h =
-          let all : p .past .erases + 1 ≡ pagesOf (length found) = omega (arith, e .fewer, ltb-false (p .past .erases + 1) (pagesOf (length found)) h) in
+          let all : p .now .session .pages + 1 ≡ pagesOf (length found) = omega (arith, e .early .fewer, ltb-false (p .now .session .pages + 1) (pagesOf (length found)) h) in
           inFilling (record {
             isOpen = refl;
             notStored = notStored′;
             touched = refl;
-            enough = omega arith;
-            pages = omega (arith, e .pages);
-            taken = e .taken ∙ sym (ap length (e .given));
-            file = e .file;
+            enough = omega (arith, e .erases);
+            pages = all;
+            operations = rw (e .early .given) (omega (arith, e .operations));
+            taken = e .early .taken ∙ sym (ap length (e .early .given));
+            file = e .early .file;
             sound = sound′;
-            slot = page-erased p e ∙ last-page p e all ∙ rw (e .given) (sym (holding-none (length found) (omega (arith, e .sound .lengths .slotLeast))));
-            first = λ k. absurd (omega (arith, ap length (e .given)));
-            word = rw (e .given);
-            held = e .held;
+            slot = page-erased p e ∙ last-page p e all ∙ rw (e .early .given) (sym (holding-none (length found) (omega (arith, e .early .sound .lengths .slotLeast))));
+            first = λ k. absurd (omega (arith, ap length (e .early .given)));
+            word = rw (e .early .given);
+            held = e .early .held;
           })
 
   -- not all bytes are given
-  pub none-given : (p : Point) → Erasing found f p → allGiven f (p .past) ≡ false
+  pub none-given : (p : Point) → Early found f p → allGiven f (p .past) ≡ false
   none-given p e = ne-eqb (length (p .past .given)) f (λ k. omega (arith, ap length (e .given), e .sound .lengths .fileLeast, e .file))
 
   -- ---- while the file is filled in
@@ -116,6 +162,7 @@ module _ (found : List ℕ) (f : ℕ) where
         touched = e .touched;
         enough = omega (arith, e .enough);
         pages = e .pages;
+        operations = e .operations;
         taken = e .taken;
         file = e .file;
         sound = e .sound;
@@ -156,8 +203,9 @@ module _ (found : List ℕ) (f : ℕ) where
         touched = e .touched;
         whole = all;
         slot = landed-slot p e a;
-        operations = omega (arith, e .sound .operations, e .pages, e .taken, e .enough);
-        operationsDone = omega (arith, e .sound .operations, e .pages, e .taken, e .sound .lengths .fileLeast, e .file);
+        operations = omega (arith, e .operations, e .enough);
+        operationsDone = omega (arith, e .operations, e .sound .lengths .fileLeast, e .file);
+        long = ap length (landed-slot p e a) ∙ length-append (p .past .given) (erasedBytes (length found - f)) ∙ omega (arith, length-erased (length found - f), e .sound .lengths .fileMost, e .file);
       }
 
   abbrev rejectedPoint : Point → Point
@@ -172,9 +220,10 @@ module _ (found : List ℕ) (f : ℕ) where
     isOpen = refl;
     notStored = record { stored = e .notStored .stored; waiting = e .notStored .waiting; done = e .notStored .done };
     phase = refl;
+    long = filling-length found f p e;
     enough = λ h. e .enough;
-    slot = rw (e .touched, e .notStored .stored, le-leb (pagesOf (length found)) (p .past .erases) (e .enough)) (e .slot);
-    operations = rw (e .notStored .stored) (omega (arith, e .sound .operations, e .pages, e .taken, e .enough));
+    slot = rw (e .touched, e .notStored .stored, lt-ltb (pagesOf (length found)) (p .past .erases) (e .enough)) (e .slot);
+    operations = rw (e .notStored .stored) (omega (arith, e .operations, e .enough));
   }
 
   pub close-filling : (given : Inputs) (p : Point) → Filling found f p → Phase found f (advance (length found) f (closeCall given) p)
@@ -199,13 +248,11 @@ module _ (found : List ℕ) (f : ℕ) where
           let all : length (p .past .given) ≡ f = eqb-true (length (p .past .given)) f a in
           let four : 4 ≤ length (p .past .given) = first-word-given found f p e a in
           let s = closed-stored p e a accepted true (p .past .done) in
-          let long : length (performed (StoreWord 0 (wordOf (p .now .session .first))) (p .now .slot)) ≡ length found =
-          ap length (landed-slot p e a) ∙ length-append (p .past .given) (erasedBytes (length found - f)) ∙ omega (arith, length-erased (length found - f), e .sound .lengths .fileMost, e .file) in
           record {
             stored = s;
             phase = refl;
             awaits = refl;
-            ready = rw long
+            ready = rw (s .long)
                 (waiting-test (withPhase (p .now .session) accepted (p .now .session .operations + 1)) (length found) refl (e .sound .slot) (e .sound .lengths) (e .pages) (omega (arith, e .taken, e .file)) (s .operationsDone ∙ rw (e .file)));
             stands = rw (landed-slot p e a, e .first four) (starts-own (p .past .given) (erasedBytes (length found - f)) four);
           }
@@ -231,6 +278,7 @@ module _ (found : List ℕ) (f : ℕ) where
       slot = o .stored .slot;
       operations = o .stored .operations;
       operationsDone = o .stored .operationsDone;
+      long = o .stored .long;
     };
     phase = refl;
     awaits = refl;

@@ -22,7 +22,7 @@ use Rattle.signing.specs.Digests.{vendorDigest, firmwareDigest}
 use Rattle.signing.specs.Places.{noSignature, vendorSignature, firmwareSignature}
 use Rattle.signing.specs.declared.Digest.{Digest}
 use Rattle.signing.specs.declared.places.Signature.{Signature}
-use Rattle.sessions.specs.Record.{over, live, accepted, slotLenRight, fileLenRight, erasing, filling, full, waiting, newRecord, withPage, withBytes, withPhase}
+use Rattle.sessions.specs.Record.{over, live, accepted, slotLenRight, fileLenRight, untouched, erasing, filling, full, waiting, noWord, newRecord, withZero, withPage, withBytes, withPhase}
 use Rattle.sessions.specs.declared.Session.{Session}
 use Rattle.sessions.specs.declared.Asked.{Asked}
 use Rattle.sessions.specs.declared.Signatures.{Signatures}
@@ -52,10 +52,15 @@ beginOf n f =
     (cond (fileLenRight n f) (turn (newRecord live n f) reply.Begun) (turn (newRecord over 0 0) (reply.Refused 18)))
     (turn (newRecord over 0 0) (reply.Refused 22))
 
--- ---- Erase: the next page
+-- ---- Erase: zero in word 0, whatever stands there; then page after page
 
 abbrev pub erasePlan : Session → List ℕ → Plan
-erasePlan s slot = cond (erasing s (length slot)) (plan (withPage s) reply.Erased (ErasePage (s .pages))) (refused s 19)
+erasePlan s slot =
+    cond (erasing s (length slot))
+    (cond (untouched s)
+    (plan (withZero s) reply.Erased (StoreWord 0 (wordOf noWord)))
+    (plan (withPage s) reply.Erased (ErasePage (s .pages))))
+    (refused s 19)
 
 -- ---- Fill: as many bytes as complete the current word, the piece and the file allow
 

@@ -5,10 +5,10 @@ use mathlib.Core.Path.{_≡_}
 use mathlib.Core.List.{List}
 use mathlib.Core.Bool.{true}
 use mathlib.Core.Logic.{_⊎_}
-use lib.ListN.{length, drop}
+use lib.ListN.{length, drop, replicate}
 use Rattle.octets.specs.Read.{startsWith}
 use Rattle.flash.specs.Flash.{startsErased}
-use Rattle.flash.specs.Operation.{count, performed}
+use Rattle.flash.specs.Operation.{bytesOf, count, performed}
 use Rattle.flash.specs.declared.Word.{Word}
 use Rattle.flash.specs.declared.Operation.the-variants.{Nothing, ErasePage, StoreWord}
 use Rattle.header.specs.declared.Refusal.{Refusal}
@@ -30,21 +30,30 @@ planOf eraseNext s slot = erasePlan s slot
 planOf (fillWith piece) s slot = fillPlan s piece slot
 planOf (closeWith given) s slot = closePlan s given slot
 
+-- the one store that needs no erased word: zero in word 0, by an Erase, where no operation was made since begin, and no page erased
+pub record FirstErase (c : Writing) (s : Session) (at : ℕ) (w : Word) : Type 0 where
+  pub call : c ≡ eraseNext
+  pub none : s .operations ≡ 0
+  pub noPage : s .pages ≡ 0
+  pub place : at ≡ 0
+  pub zero : bytesOf w ≡ replicate 4 0
+
 -- what a call on this record and slot plans
-pub record OneOperation (s : Session) (slot : List ℕ) (p : Plan) : Type 0 where
+pub record OneOperation (c : Writing) (s : Session) (slot : List ℕ) (p : Plan) : Type 0 where
   -- after a refusal of the installer's own the record is unchanged, and nothing is done
   pub refused : (number : ℕ) → p .reply ≡ Refused number → (p .session ≡ s) × (p .operation ≡ Nothing)
   -- nor is anything done after a refusal of the check
   pub rejected : (r : Refusal) → p .reply ≡ Rejected r → p .operation ≡ Nothing
-  -- an erase is of a page of the slot
-  pub erased : (page : ℕ) → p .operation ≡ ErasePage page → page < pagesOf (length slot)
-  -- a store is aligned, inside the slot, and over an erased word
-  pub stored : (at : ℕ) (w : Word) → p .operation ≡ StoreWord at w → (at % 4 ≡ 0) × (at + 4 ≤ length slot) × (startsErased (drop at slot) ≡ true)
+  -- an erase is of a page of the slot, and never the first operation
+  pub erased : (page : ℕ) → p .operation ≡ ErasePage page → (page < pagesOf (length slot)) × (0 < s .operations)
+  -- a store is aligned, inside the slot, and over an erased word, or it is the zero of the first Erase
+  pub stored : (at : ℕ) (w : Word) → p .operation ≡ StoreWord at w
+      → (at % 4 ≡ 0) × (at + 4 ≤ length slot) × ((startsErased (drop at slot) ≡ true) ⊎ FirstErase c s at w)
   -- the count rises by one exactly where there is an operation
   pub counted : p .session .operations ≡ s .operations + count (p .operation)
 
 pub record AtMostOneOperation : Type 0 where
-  pub one : (c : Writing) (s : Session) (slot : List ℕ) → OneOperation s slot (planOf c s slot)
+  pub one : (c : Writing) (s : Session) (slot : List ℕ) → OneOperation c s slot (planOf c s slot)
   -- no call that hands its operation back answers Done; Confirm does, and only where word 0 stands in the slot
   pub notDone : (c : Writing) (s : Session) (slot : List ℕ) → planOf c s slot .reply ≡ Done → ⊥
   pub confirmed : (s : Session) (slot : List ℕ) → confirmOf s slot .reply ≡ Done → startsWith (s .first) slot ≡ true

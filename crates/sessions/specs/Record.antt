@@ -32,6 +32,14 @@ pagesOf n = n / 4096
 abbrev pub wordsStored : ℕ → ℕ
 wordsStored t = t / 4 - 1
 
+-- no operation was made since begin
+abbrev pub untouched : Session → Bool
+untouched s = eqb (s .operations) 0
+
+-- the operations are the zero that the first Erase stores, the pages erased and the words stored; or none was made
+abbrev pub counted : Session → Bool
+counted s = eqb (s .operations) (s .pages + wordsStored (s .taken) + 1) || (untouched s && eqb (s .pages) 0)
+
 -- the record is that of an open session, and consistent with a slot of n bytes: some session reaches it
 unfoldable pub sound : Session → ℕ → Bool
 sound s n =
@@ -42,7 +50,7 @@ sound s n =
     && (fileLenRight n (s .file)
     && ((eqb (s .pages) (pagesOf n) || eqb (s .taken) 0)
     && (leb (s .taken) (s .file)
-    && eqb (s .operations) (s .pages + wordsStored (s .taken))))))))
+    && counted s))))))
 
 -- some pages are not erased yet
 abbrev pub erasing : Session → ℕ → Bool
@@ -56,7 +64,7 @@ filling s n = sound s n && eqb (s .pages) (pagesOf n)
 abbrev pub full : Session → ℕ → Bool
 full s n = sound s n && (eqb (s .pages) (pagesOf n) && eqb (s .taken) (s .file))
 
--- the record is that of an accepted session, and consistent with a slot of n bytes: word 0 counts among the operations
+-- the record is that of an accepted session, and consistent with a slot of n bytes: word 0 counts among the operations too
 unfoldable pub waiting : Session → ℕ → Bool
 waiting s n =
     eqb (s .phase) accepted
@@ -65,16 +73,21 @@ waiting s n =
     && (fileLenRight n (s .file)
     && (eqb (s .pages) (pagesOf n)
     && (eqb (s .taken) (s .file)
-    && eqb (s .operations) (pagesOf n + s .file / 4))))))
+    && eqb (s .operations) (pagesOf n + s .file / 4 + 1))))))
 
 -- ---- records
 
 abbrev pub noWord : List ℕ
 noWord = 0 ∷ 0 ∷ 0 ∷ 0 ∷ []
 
--- a record with no page erased and no byte taken
+-- a record with nothing done
 abbrev pub newRecord : ℕ → ℕ → ℕ → Session
 newRecord phase n f = record { phase = phase; slot = n; file = f; pages = 0; taken = 0; operations = 0; first = noWord; held = noWord }
+
+-- zero is stored in word 0
+abbrev pub withZero : Session → Session
+withZero s =
+    record { phase = s .phase; slot = s .slot; file = s .file; pages = s .pages; taken = s .taken; operations = s .operations + 1; first = s .first; held = s .held }
 
 -- one page more is erased
 abbrev pub withPage : Session → Session

@@ -1,6 +1,6 @@
 -- "Done means landed" (specification, 11): a begin, any list of calls after it, and what holds wherever such a list ends.
--- A power cut is such an end, since each call makes at most one operation of the flash, and that happens wholly or not at all. A call that
--- hands its operation back, and that operation made, are one step of the list; a cut between the two is the point before.
+-- A power cut is such an end, between two calls or inside the one operation that a call makes. A call that hands its operation back, and that
+-- operation made, are one step of the list; a cut between the two is the point before.
 -- Nobody else writes the slot, and each call gets the record and the slot that the last one left.
 -- Assumes nothing.
 use Prim.Native.Nat.{ℕ, _+_, _-_, _*_, _/_, _%_, _≤_, _<_, min, max}
@@ -11,6 +11,9 @@ use mathlib.Core.Logic.{_⊎_}
 use lib.ListN.{length, take, drop}
 use lib.Dec.{eqb, leb, ltb}
 use Rattle.flash.specs.Flash.{erasedBytes}
+use Rattle.flash.specs.Operation.{wordOf, performed, interrupted}
+use Rattle.flash.specs.declared.Operation.{Operation}
+use Rattle.flash.specs.declared.Operation.the-variants.{Nothing, ErasePage, StoreWord}
 use Rattle.header.specs.Table.{refusal}
 use Rattle.header.specs.declared.Inputs.{Inputs}
 use Rattle.image.specs.Check.{checkFile, checkSlot}
@@ -19,8 +22,8 @@ use Rattle.image.specs.declared.Answer.{Answer}
 use Rattle.image.specs.declared.Answer.the-variants as answer
 use Rattle.signing.specs.Digests.{vendorDigest, firmwareDigest}
 use Rattle.signing.specs.Places.{noSignature, vendorSignature, firmwareSignature}
-use Rattle.sessions.specs.Record.{pagesOf, wordsStored}
-use Rattle.sessions.specs.Calls.{beginOf, takes, eraseOf, eraseSlot, fillOf, fillSlot, noDigest, asked, askOf, signatures, signaturesOf, closeOf, closeSlot, closePlan, slotOf, confirmOf}
+use Rattle.sessions.specs.Record.{pagesOf, wordsStored, noWord}
+use Rattle.sessions.specs.Calls.{beginOf, erasePlan, takes, fillPlan, eraseOf, eraseSlot, fillOf, fillSlot, noDigest, asked, askOf, signatures, signaturesOf, closeOf, closeSlot, closePlan, slotOf, confirmOf}
 use Rattle.sessions.specs.declared.Session.{Session}
 use Rattle.sessions.specs.declared.Asked.{Asked}
 use Rattle.sessions.specs.declared.Signatures.{Signatures}
@@ -77,6 +80,15 @@ after (planCloseCall given) st =
     record { session = closePlan (st .session) given (st .slot) .session; slot = slotOf (closePlan (st .session) given (st .slot)) (st .slot) }
 after confirmCall st = record { session = confirmOf (st .session) (st .slot) .session; slot = st .slot }
 
+-- the operation of the flash that a call makes. Ask and Confirm make none
+abbrev pub operationOf : Call → State → Operation
+operationOf eraseCall st = erasePlan (st .session) (st .slot) .operation
+operationOf (fillCall piece) st = fillPlan (st .session) piece (st .slot) .operation
+operationOf askCall st = Nothing
+operationOf (closeCall given) st = closePlan (st .session) given (st .slot) .operation
+operationOf (planCloseCall given) st = closePlan (st .session) given (st .slot) .operation
+operationOf confirmCall st = Nothing
+
 -- ---- the history: what has happened, told from the calls and their answers, and never from the record
 
 pub record History : Type 0 where
@@ -131,9 +143,9 @@ isDone Done = true
 isDone (Refused number) = false
 isDone (Rejected r) = false
 
--- all pages are erased once an open session has had as many Erase calls as the slot of n bytes has pages
+-- all pages are erased once an open session has had one Erase call more than the slot of n bytes has pages
 abbrev pub allErased : ℕ → History → Bool
-allErased n h = h .isOpen && leb (pagesOf n) (h .erases)
+allErased n h = h .isOpen && ltb (pagesOf n) (h .erases)
 
 -- all bytes are given once they are as many as begin was told
 abbrev pub allGiven : ℕ → History → Bool
@@ -183,11 +195,15 @@ abbrev pub run : ℕ → ℕ → List Call → Point → Point
 run n f [] p = p
 run n f (c ∷ calls) p = run n f calls (advance n f c p)
 
--- the operations of the flash that the calls made: pages erased, words stored, and word 0
+-- the operations of the flash that the calls made: the zero and the pages erased, one for each Erase, words stored, and word 0
 abbrev pub made : ℕ → History → ℕ
-made n h = min (h .erases) (pagesOf n) + wordsStored (length (h .given)) + cond (h .stored) 1 0
+made n h = min (h .erases) (pagesOf n + 1) + wordsStored (length (h .given)) + cond (h .stored) 1 0
 
 -- ---- the slot, by what was found and the history
+
+-- zero in word 0, and the rest as found
+unfoldable pub invalidated : List ℕ → List ℕ
+invalidated found = noWord ++ drop 4 found
 
 -- the first k pages erased, and the rest as found
 unfoldable pub pagesErased : ℕ → List ℕ → List ℕ
@@ -206,8 +222,12 @@ slotThen found f h =
     cond (h .touched)
     (cond (h .stored)
     (h .given ++ erasedBytes (length found - f))
-    (cond (leb (pagesOf (length found)) (h .erases)) (holding (h .given) (length found)) (pagesErased (h .erases) found)))
+    (cond (ltb (pagesOf (length found)) (h .erases)) (holding (h .given) (length found)) (pagesErased (h .erases - 1) (invalidated found))))
     found
+
+-- the operation of the next Erase: the zero first, then page after page
+abbrev pub eraseThen : ℕ → History → Operation
+eraseThen n h = cond (h .isOpen && leb (h .erases) (pagesOf n)) (cond (eqb (h .erases) 0) (StoreWord 0 (wordOf noWord)) (ErasePage (h .erases - 1))) Nothing
 
 -- ---- the answers, by the history
 
@@ -230,22 +250,41 @@ pub record FillRule (g f len k : ℕ) : Type 0 where
 
 -- ---- what holds at a point: of the slot then, and of the call that comes next
 
+-- the slot's first word is zero or erased, and the boot check refuses it with 1 for any time, key policy and verdicts
+pub record Unbootable (slot : List ℕ) : Type 0 where
+  pub first : (take 4 slot ≡ erasedBytes 4) ⊎ (take 4 slot ≡ noWord)
+  pub refused : (given : Inputs) → checkSlot slot given ≡ answer.Rejected (refusal 1 1)
+
+-- the power is cut inside the call that comes next, and leaves this. That call is not counted: the history is the one before it
+pub record Cut (found : List ℕ) (f : ℕ) (p : Point) (c : Call) (left : List ℕ) : Type 0 where
+  -- until the first Erase that is not refused the slot is as found; in that one zero is in word 0, or not
+  pub untouched : p .past .touched ≡ false → (left ≡ found) ⊎ ((c ≡ eraseCall) × (left ≡ invalidated found) × Unbootable left)
+  -- from that Erase until word 0 is stored it cannot start, nor can it from begin on if what was found cannot; in the Close that stores word 0, that is
+  -- stored, or not
+  pub hidden : (p .past .touched ≡ true) ⊎ Unbootable found → p .past .stored ≡ false
+      → Unbootable left ⊎ ((watch (length found) f c (p .now) (p .past) .stored ≡ true) × (left ≡ p .past .given ++ erasedBytes (length found - f)))
+  -- from then on it holds the file
+  pub landed : p .past .stored ≡ true → left ≡ p .past .given ++ erasedBytes (length found - f)
+  -- its length stays, so the next begin answers as this one did
+  pub long : length left ≡ length found
+
 pub record Landed (found : List ℕ) (f : ℕ) (p : Point) : Type 0 where
   -- the slot is as found until the first Erase that is not refused
   pub untouched : p .past .touched ≡ false → p .now .slot ≡ found
-  -- from that Erase until a Close answers Done, its first word is erased, and the boot check refuses with 1 for any time, key policy and verdicts
-  pub hidden : p .past .touched ≡ true → p .past .stored ≡ false → take 4 (p .now .slot) ≡ erasedBytes 4
-  pub unbootable : p .past .touched ≡ true → p .past .stored ≡ false → (given : Inputs) → checkSlot (p .now .slot) given ≡ answer.Rejected (refusal 1 1)
+  -- from that Erase until a Close answers Done, its first word is zero or erased, and the boot check refuses it; and from begin on, if what was found is
+  -- such a slot
+  pub hidden : (p .past .touched ≡ true) ⊎ Unbootable found → p .past .stored ≡ false → Unbootable (p .now .slot)
   -- from Done on it holds the file and erased bytes after it; and Done is not answered before
   pub landed : p .past .stored ≡ true → p .now .slot ≡ p .past .given ++ erasedBytes (length found - f)
   pub whole : p .past .stored ≡ true → length (p .past .given) ≡ f
   pub doneStored : p .past .done ≡ true → p .past .stored ≡ true
   -- at every point it is what the history says
   pub slot : p .now .slot ≡ slotThen found f (p .past)
-  -- in an open session, as many Erase calls as the slot has pages leave every byte erased
-  pub erased : p .past .isOpen ≡ true → p .past .erases + 1 ≡ pagesOf (length found) → after eraseCall (p .now) .slot ≡ erasedBytes (length found)
-  -- an Erase is answered Erased exactly while the session is open and pages are missing
-  pub eraseAnswers : eraseAnswer (p .now) ≡ cond (p .past .isOpen && ltb (p .past .erases) (pagesOf (length found))) Erased (Refused 19)
+  -- in an open session, one Erase call more than the slot has pages leaves every byte erased
+  pub erased : p .past .isOpen ≡ true → p .past .erases ≡ pagesOf (length found) → after eraseCall (p .now) .slot ≡ erasedBytes (length found)
+  -- an Erase is answered Erased exactly while the session is open and pages are missing; it makes the operation that is next, and none otherwise
+  pub eraseAnswers : eraseAnswer (p .now) ≡ cond (p .past .isOpen && leb (p .past .erases) (pagesOf (length found))) Erased (Refused 19)
+  pub eraseMakes : operationOf eraseCall (p .now) ≡ eraseThen (length found) (p .past)
   -- a Fill is answered by its rule exactly when the session is open and all pages are erased; what it adds is a first part of the piece, and while
   -- bytes are missing at least one byte of a nonempty piece
   pub fillAnswers : (piece : List ℕ) → fillAnswer piece (p .now) ≡ cond (allErased (length found) (p .past)) (Took (adds f (p .past) piece)) (Refused 19)
@@ -265,10 +304,53 @@ pub record Landed (found : List ℕ) (f : ℕ) (p : Point) : Type 0 where
   pub boots : (given : Inputs) (i : Image) → isFull (length found) f (p .past) ≡ true → checkFile (p .past .given) given ≡ answer.Accepted i
       → (checkSlot (after (closeCall given) (p .now) .slot) given ≡ answer.Accepted i)
       × (checkSlot (after (planCloseCall given) (p .now) .slot) given ≡ answer.Accepted i)
-  -- the record counts the operations made since begin, and at Done they are slot / 4,096 + file / 4
+  -- the record counts the operations made since begin, and at Done they are slot / 4,096 + file / 4 + 1
   pub counted : p .now .session .operations ≡ made (length found) (p .past)
-  pub countedDone : p .past .stored ≡ true → p .now .session .operations ≡ pagesOf (length found) + f / 4
+  pub countedDone : p .past .stored ≡ true → p .now .session .operations ≡ pagesOf (length found) + f / 4 + 1
+  -- a call leaves the slot with its operation made; and the list may also end inside that operation, whatever the flash's choice
+  pub makes : (c : Call) → after c (p .now) .slot ≡ performed (operationOf c (p .now)) (p .now .slot)
+  pub cut : (c : Call) (choice : List Bool) → Cut found f p c (interrupted choice (operationOf c (p .now)) (p .now .slot))
 
 -- the one statement: any slot, a begin on it, told any file length, and any list of calls after it, ending anywhere
 abbrev pub DoneMeansLanded : Type 0
 DoneMeansLanded = (found : List ℕ) (f : ℕ) (calls : List Call) → Landed found f (run (length found) f calls (began found f))
+
+-- ---- after a cut inside a call: the record is lost, and the next session starts with begin
+
+-- a session that the power cuts: the file's length that begin is told, the calls after it, the call in whose operation the power is cut, and the
+-- flash's choice. A cut between two calls is one in an Ask, which makes no operation
+pub record CutSession : Type 0 where
+  pub file : ℕ
+  pub calls : List Call
+  pub last : Call
+  pub choice : List Bool
+
+-- the point before that call, where the slot was found so
+abbrev pub beforeCut : CutSession → List ℕ → Point
+beforeCut s found = run (length found) (s .file) (s .calls) (began found (s .file))
+
+-- what such a session leaves, and what one after another leaves: that is what the next begin finds
+abbrev pub leftBy : CutSession → List ℕ → List ℕ
+leftBy s found = interrupted (s .choice) (operationOf (s .last) (beforeCut s found .now)) (beforeCut s found .now .slot)
+
+abbrev pub leftByAll : List CutSession → List ℕ → List ℕ
+leftByAll [] found = found
+leftByAll (s ∷ sessions) found = leftByAll sessions (leftBy s found)
+
+-- none of them, with its last call counted, has stored word 0
+abbrev pub NoneStored : List CutSession → List ℕ → Type 0
+NoneStored [] found = Unit {0}
+NoneStored (s ∷ sessions) found =
+    (advance (length found) (s .file) (s .last) (beforeCut s found) .past .stored ≡ false) × NoneStored sessions (leftBy s found)
+
+pub record NextSession (found : List ℕ) (sessions : List CutSession) : Type 0 where
+  -- the next begin answers as it would have on the slot that the first one found
+  pub begins : (f : ℕ) → beginOf (length (leftByAll sessions found)) f ≡ beginOf (length found) f
+  -- what is shown of its session is the same statement, with what is left for found
+  pub lands : (f : ℕ) (calls : List Call)
+      → Landed (leftByAll sessions found) f (run (length (leftByAll sessions found)) f calls (began (leftByAll sessions found) f))
+  -- a slot that cannot start still cannot, until a session stores word 0
+  pub hidden : Unbootable found → NoneStored sessions found → Unbootable (leftByAll sessions found)
+
+abbrev pub NextSessionLands : Type 0
+NextSessionLands = (found : List ℕ) (sessions : List CutSession) → NextSession found sessions

@@ -39,7 +39,7 @@ pub extern "C" fn thimmorel_begin(slot: &[u8], file: usize, record: &mut [u32; 1
     tell_begun(session, reply, record)
 }
 
-// Erases the next page.
+// Stores zero in the first word, and then erases the next page.
 #[no_mangle]
 pub extern "C" fn thimmorel_erase(record: &mut [u32; 16], slot: &mut [u8]) -> u32
     ensures { λ r. ⌜ r ≡ numberOf (eraseOf (sessionOf (now («record» .entry))) (now (slot .entry)) .reply) ⌝ }

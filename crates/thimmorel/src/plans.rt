@@ -16,7 +16,7 @@ ghost use Rattle.abi.specs.Inputs.{inputsOf};
 ghost use Rattle.abi_session.specs.Record.{sessionOf, wordsAfterTurn, wordsAfterPlan};
 ghost use Rattle.abi_session.specs.Answers.{replyWords, takenWord, operationWords};
 
-// The next page is to be erased.
+// Zero is to be stored in the first word, and then the next page to be erased.
 #[no_mangle]
 pub extern "C" fn thimmorel_plan_erase(
     record: &mut [u32; 16],

@@ -6,7 +6,7 @@
 
 #include "writers.h"
 
-enum { SLOT_LENGTH = 65536, PAGES = SLOT_LENGTH / 4096, OPERATIONS = PAGES + FILE_LENGTH / 4 };
+enum { SLOT_LENGTH = 65536, PAGES = SLOT_LENGTH / 4096, OPERATIONS = 1 + PAGES + FILE_LENGTH / 4 };
 
 static const struct thimmorel_inputs inputs = { 100, 2, 3, 1, 1 };
 static const struct thimmorel_inputs not_signed = { 100, 2, 3, 0, 1 };
@@ -14,6 +14,9 @@ static const struct thimmorel_inputs not_signed = { 100, 2, 3, 0, 1 };
 /* The session in memory and its slot, and the one by a driver and its slot. */
 static struct thimmorel_record record, planned;
 static uint8_t slot[SLOT_LENGTH], driven[SLOT_LENGTH];
+
+/* What they hold before. */
+enum { OLD = 7 };
 
 /* The driver. */
 static void make(const struct thimmorel_operation *operation)
@@ -103,6 +106,8 @@ static void expect_turns(int turns, struct thimmorel_record now)
 /* A refused begin gives a session that is over. The reserved words are marked, and stay so. */
 static void begin(void)
 {
+	memset(slot, OLD, sizeof slot);
+	memset(driven, OLD, sizeof driven);
 	MARK(record);
 	EXPECT(thimmorel_begin(slot, sizeof slot - 1, 0, &record) == THIMMOREL_ERROR_SLOT_LENGTH);
 	EXPECT(IS_ZERO(record));
@@ -120,11 +125,21 @@ static void begin(void)
 	expect_turns(ERASE, record);
 }
 
+/* The first erase stores zero in the first word, whatever stands there. */
 static void erase(void)
 {
 	struct thimmorel_operation operation;
 	uint32_t page;
 
+	EXPECT(thimmorel_erase(&record, slot, sizeof slot) == THIMMOREL_OK);
+	EXPECT(thimmorel_plan_erase(&planned, driven, sizeof driven, &operation) == THIMMOREL_OK);
+	EXPECT(operation.kind == THIMMOREL_OPERATION_STORE_WORD);
+	EXPECT(operation.offset == 0 && operation.word == 0);
+	make(&operation);
+	EXPECT(is_all(slot, 4, 0) && is_all(slot + 4, sizeof slot - 4, OLD));
+	EXPECT(record.pages_erased == 0 && record.operations == 1);
+	expect_alike(THIMMOREL_ERROR_VENDOR_MAGIC);
+	expect_turns(ERASE, record);
 	for (page = 0; page < PAGES; page++) {
 		EXPECT(thimmorel_erase(&record, slot, sizeof slot) == THIMMOREL_OK);
 		EXPECT(thimmorel_plan_erase(&planned, driven, sizeof driven, &operation) == THIMMOREL_OK);
@@ -133,7 +148,7 @@ static void erase(void)
 		make(&operation);
 		expect_alike(THIMMOREL_ERROR_VENDOR_MAGIC);
 	}
-	EXPECT(record.pages_erased == PAGES && record.operations == PAGES);
+	EXPECT(record.pages_erased == PAGES && record.operations == 1 + PAGES);
 	EXPECT(is_all(slot, sizeof slot, 255));
 	expect_turns(FILL, record);
 }
@@ -245,7 +260,9 @@ static void expect_refused_closes(void)
 		== THIMMOREL_ERROR_NOT_ERASED);
 	EXPECT(tells(&answer, 23, 0, 0) && tells(&answer_too, 23, 0, 0) && IS_ZERO(operation));
 	EXPECT(IS_SAME(now, record) && IS_SAME(also, record));
-	slot[3] = 255;
+	memset(slot, 0, 4);
+	EXPECT(thimmorel_close(&now, slot, sizeof slot, &inputs, &answer) == THIMMOREL_ERROR_NOT_ERASED);
+	memset(slot, 255, 4);
 
 	ended.phase = 0;
 	MARK(operation);
@@ -304,6 +321,6 @@ int main(void)
 	expect_refused_closes();
 	finish_in_memory();
 	finish_by_driver();
-	EXPECT(OPERATIONS == 401 && IS_UNCHANGED(record.reserved));
+	EXPECT(OPERATIONS == 402 && IS_UNCHANGED(record.reserved));
 	return EXIT_SUCCESS;
 }

@@ -42,7 +42,7 @@ impl Flash for Board {
         if self.fails_at == Some(count(&self.reads)) {
             return Err(SimulatedError::Failed);
         }
-        let is_stored = self.bytes[..4] != [255; 4];
+        let is_stored = self.bytes[..4] != [255; 4] && self.bytes[..4] != [0; 4];
         match &self.faded {
             Some(faded) if is_stored && count(&self.reads_of_first_word) > 1 => Ok(faded),
             _ => Ok(&self.bytes),

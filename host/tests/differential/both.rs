@@ -144,6 +144,15 @@ impl Both {
         answer
     }
 
+    /// An erase that is planned, and the power is cut in its operation. Gives what is left of the
+    /// slot; the record is lost.
+    pub fn cut_in_erase(&mut self, chooses: &mut dyn FnMut() -> bool) -> Vec<u8> {
+        let operation = self.plan_erase().expect("an erase whose turn it is");
+        let mut left = self.slot().to_vec();
+        operation.interrupt(&mut left, chooses);
+        left
+    }
+
     /// Makes an operation that a call has handed back. The call and this are one step.
     fn make(&mut self, operation: Operation) {
         let view = self.view();
@@ -151,14 +160,18 @@ impl Both {
         operation.make(&mut self.expected[view]);
     }
 
+    fn plan_erase(&mut self) -> Result<Operation, u32> {
+        let by_model = |record: &mut Record, slot: &mut [u8]| {
+            model::plan_erase(record, slot) // the slot is only read
+        };
+        self.call("plan_erase", archive::plan_erase, by_model)
+    }
+
     pub fn erase(&mut self, way: Way) -> Result<(), u32> {
         match way {
             Way::Memory => self.call("erase", archive::erase, model::erase),
             Way::Plan => {
-                let by_model = |record: &mut Record, slot: &mut [u8]| {
-                    model::plan_erase(record, slot) // the slot is only read
-                };
-                let operation = self.call("plan_erase", archive::plan_erase, by_model)?;
+                let operation = self.plan_erase()?;
                 self.make(operation);
                 Ok(())
             }

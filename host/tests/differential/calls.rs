@@ -1,6 +1,6 @@
 //! Lists of calls after one begin, in both forms: most of them in turn, the rest at any time, and
-//! the list may end anywhere. On a slot that nobody else writes, "done means landed" is watched
-//! after each.
+//! the list may end anywhere, also inside an erase. On a slot that nobody else writes, "done means
+//! landed" is watched after each.
 
 use crate::both::{Both, Way, AFTER, WAYS};
 use crate::common::random::Random;
@@ -113,21 +113,29 @@ fn make(call: &Call, both: &mut Both, landed: &mut Landed) -> Outcome {
 fn done_means_landed() {
     let mut random = Random::new(601);
     let mut tally = Tally::new("calls in lists");
+    let mut cuts = 0;
     for _ in 0..cases(2_500) {
         let plan = Plan::new(&mut random);
         let found = found(slot_length(plan.file.len(), &mut random), &mut random);
         let (refused, mut both) = Both::begin(&found, plan.file.len());
         assert_eq!(refused, None);
         let mut landed = Landed::after_begin(refused, &found, plan.file.len());
-        for _ in 0..random.up_to(2 * plan.file.len()) {
+        let most = random.pick(&[4, 2 * plan.file.len(), 2 * plan.file.len()]);
+        for _ in 0..random.up_to(most) {
             let call = next_call(&plan, &landed, &mut random);
             tally.count(make(&call, &mut both, &mut landed));
             if landed.is_over() && random.one_in(16) {
                 break;
             }
         }
+        if landed.is_erasing() {
+            let left = both.cut_in_erase(&mut || random.one_in(2));
+            landed.cut_in_erase(&left);
+            cuts += 1;
+        }
     }
     tally.assert_exactly(5, &outcomes());
+    assert!(cuts >= 100, "lists that end inside an erase");
 }
 
 /// A list after a refused begin changes nothing.
@@ -208,7 +216,7 @@ fn meddled_slots() {
         let plan = Plan::new(&mut random);
         let found = found(slot_length(plan.file.len(), &mut random), &mut random);
         let (_, mut both) = Both::begin(&found, plan.file.len());
-        for _ in 0..found.len() / 4_096 {
+        for _ in 0..=found.len() / 4_096 {
             let way = random.pick(&WAYS);
             tally.count(outcome("erase", way, &both.erase(way)));
         }

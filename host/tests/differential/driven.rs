@@ -1,6 +1,7 @@
 //! Installs by the wrapper's `Installer`, over a flash that fails, does nothing or loses power, at
-//! every operation. After each, the boot check says what docs/DONE.md and section 11 of the
-//! specification say, nothing more can be done with the installer, and the next install lands.
+//! every operation and inside it. After each, the boot check says what docs/DONE.md and section 11
+//! of the specification say, nothing more can be done with the installer, and the next install
+//! lands.
 
 use crate::checks;
 use crate::common::random::Random;
@@ -36,17 +37,31 @@ enum Fault {
     Skip,
     CutBefore,
     CutAfter,
+    CutInside,
 }
 
-const FAULTS: [Fault; 4] = [Fault::Fail, Fault::Skip, Fault::CutBefore, Fault::CutAfter];
+const FAULTS: [Fault; 5] = [
+    Fault::Fail,
+    Fault::Skip,
+    Fault::CutBefore,
+    Fault::CutAfter,
+    Fault::CutInside,
+];
 
 impl Fault {
-    fn at(self, operation: u32, flash: SimulatedFlash<'_>) -> SimulatedFlash<'_> {
+    /// The flash with this fault at an operation. What a cut inside it leaves is as chosen.
+    fn at<'a>(
+        self,
+        operation: u32,
+        is_made: &'a (dyn Fn(usize) -> bool + Sync),
+        flash: SimulatedFlash<'a>,
+    ) -> SimulatedFlash<'a> {
         match self {
             Fault::Fail => flash.fail_at(operation),
             Fault::Skip => flash.skip_at(operation),
             Fault::CutBefore => flash.cut_before(operation),
             Fault::CutAfter => flash.cut_after(operation),
+            Fault::CutInside => flash.cut_inside(operation, is_made),
         }
     }
 
@@ -60,12 +75,16 @@ impl Fault {
     }
 }
 
-/// Where an operation of an install writes: the pages, the words from the second on, the first.
+/// The first operation stores zero in the first word. The pages follow it.
+const ERASES: std::ops::RangeInclusive<u32> = 2..=1 + PAGES;
+
+/// Where an operation of an install writes: the first word, the pages, the words from the second
+/// on, the first.
 fn offset(operation: u32, last: u32) -> usize {
     match operation {
-        page if page <= PAGES => 4_096 * (page as usize - 1),
-        operation if operation == last => 0,
-        word => 4 * (word - PAGES) as usize,
+        page if ERASES.contains(&page) => 4_096 * (page as usize - 2),
+        operation if operation == 1 || operation == last => 0,
+        word => 4 * (word - 1 - PAGES) as usize,
     }
 }
 
@@ -100,7 +119,7 @@ impl Case {
             let file = draft.file();
             if file.chunks(4).all(|word| word != [255; 4]) {
                 return Case {
-                    last: PAGES + file.len() as u32 / 4,
+                    last: 1 + PAGES + file.len() as u32 / 4,
                     inputs: draft.inputs,
                     file,
                 };
@@ -122,7 +141,10 @@ impl Case {
     /// An install with a fault at one operation, begun on this slot.
     fn try_fault(&self, fault: Fault, operation: u32, found: &[u8], random: &mut Random) -> Row {
         let mut slot = found.to_vec();
-        let flash = fault.at(operation, SimulatedFlash::new(&mut slot));
+        let in_256 = random.pick(&[0, 1, 128, 255, 256]);
+        let choice: Vec<bool> = (0..1_024).map(|_| random.up_to(255) < in_256).collect();
+        let is_made = |word: usize| choice[word];
+        let flash = fault.at(operation, &is_made, SimulatedFlash::new(&mut slot));
         let mut installer = Installer::begin(flash, self.file.len()).expect("good lengths");
         let answer = install(&mut installer, &self.file, inputs(&self.inputs));
         let error = fault.error(offset(operation, self.last));
@@ -132,6 +154,7 @@ impl Case {
 
         let made = match fault {
             Fault::CutAfter => operation,
+            Fault::CutInside if choice[0] && !ERASES.contains(&operation) => operation,
             _ => operation - 1,
         };
         let row = self.look_at(&slot, made, found, random);
@@ -177,7 +200,7 @@ fn a_fault_at_every_operation() {
     let mut tally = Tally::new("boot checks after a fault");
     for _ in 0..cases(1) {
         let case = Case::new(&mut random);
-        assert_eq!(case.last, 387);
+        assert_eq!(case.last, 388);
         for found in case.found(&mut random) {
             for fault in FAULTS {
                 for operation in 1..=case.last {
@@ -196,13 +219,15 @@ fn a_fault_at_every_operation() {
     );
 }
 
-/// A page that is erased already may be left as it is: what is read back decides.
+/// A word that is zero already, or a page that is erased, may be left as it is: what is read back
+/// decides. Page 0 is never erased already, since zero stands in its first word.
 #[test]
-fn an_erase_that_had_nothing_to_do() {
+fn an_operation_that_had_nothing_to_do() {
     let case = Case::new(&mut Random::new(902));
-    for page in 1..=PAGES {
+    for operation in [1, 3] {
         let mut slot = [255; SLOT];
-        let flash = SimulatedFlash::new(&mut slot).skip_at(page);
+        slot[..4].fill(0);
+        let flash = SimulatedFlash::new(&mut slot).skip_at(operation);
         let mut installer = Installer::begin(flash, case.file.len()).expect("good lengths");
         let answer = install(&mut installer, &case.file, inputs(&case.inputs));
         assert_eq!(answer, Ok(()));

@@ -54,7 +54,7 @@ impl Install<'_> {
 }
 
 /// Installs a file. Tells what the close answered, and the session.
-fn install(
+pub fn install(
     found: &[u8],
     file: &[u8],
     inputs: &Inputs,
@@ -94,7 +94,8 @@ fn the_power_fails_after_every_call() {
             };
             let (answer, both) = install(&found, &file, &draft.inputs, &mut random, &mut look);
             assert_eq!(answer, Ok(()));
-            assert_eq!(both.operations() as usize, length / 4_096 + file.len() / 4);
+            let operations = length / 4_096 + file.len() / 4 + 1;
+            assert_eq!(both.operations() as usize, operations);
         }
     }
     tally.assert_exactly(1_200, &["S1", ACCEPTED]);
@@ -102,7 +103,7 @@ fn the_power_fails_after_every_call() {
 
 /// The marked number P12.
 #[test]
-fn p12_401_operations() {
+fn p12_402_operations() {
     let mut random = Random::new(702);
     let draft = Draft::smallest(Form::File, &mut random);
     let file = draft.file();
@@ -110,7 +111,7 @@ fn p12_401_operations() {
     let found = random.bytes(65_536);
     let (answer, both) = install(&found, &file, &draft.inputs, &mut random, &mut |_| ());
     assert_eq!(answer, Ok(()));
-    assert_eq!(both.operations(), 401);
+    assert_eq!(both.operations(), 402);
 }
 
 /// A file that the check refuses does not start. Nor does it stay in the way of the next.

@@ -1,7 +1,7 @@
 //! "Done means landed" (specification, 11), watched from outside: a history told from the calls and
 //! their answers alone, and after each call what must then be true of the slot, whichever call was
-//! the last before the power failed. A call that hands its operation back, and that operation made,
-//! are one step.
+//! the last before the power failed, or inside which it failed. A call that hands its operation
+//! back, and that operation made, are one step.
 
 use crate::archive::image as archive;
 use crate::both::Way;
@@ -52,7 +52,7 @@ impl Landed {
     }
 
     fn all_erased(&self) -> bool {
-        self.erase_calls >= self.pages()
+        self.erase_calls > self.pages()
     }
 
     pub fn all_given(&self) -> bool {
@@ -84,13 +84,16 @@ impl Landed {
     pub fn erase(&mut self, answer: Result<(), u32>, slot: &[u8]) {
         if self.is_erasing() {
             assert_eq!(answer, Ok(()), "an erase whose turn it is");
-            self.then[PAGE * self.erase_calls..][..PAGE].fill(255);
+            match self.erase_calls {
+                0 => self.then[..4].fill(0),
+                calls => self.then[PAGE * (calls - 1)..][..PAGE].fill(255),
+            }
         } else {
             assert_eq!(answer, Err(19), "an erase out of turn");
         }
         self.erased |= answer.is_ok();
         self.erase_calls += usize::from(self.open);
-        if self.open && self.erase_calls == self.pages() {
+        if self.open && self.erase_calls == self.pages() + 1 {
             assert!(slot.iter().all(|byte| *byte == 255), "all pages are erased");
         }
         self.look_at(slot);
@@ -155,15 +158,40 @@ impl Landed {
         self.look_at(slot);
     }
 
+    /// What holds where the power is cut inside an erase that was not refused. That call is not
+    /// counted.
+    pub fn cut_in_erase(&mut self, left: &[u8]) {
+        assert!(self.is_erasing());
+        let Some(page) = self.erase_calls.checked_sub(1) else {
+            let zero = [&[0; 4], &self.found[4..]].concat();
+            let is_made_or_not = left == self.found || left == zero;
+            assert!(is_made_or_not, "zero is stored, or not");
+            return;
+        };
+        let torn = PAGE * page..PAGE * (page + 1);
+        assert_eq!(left.len(), self.then.len());
+        for (at, (word, old)) in left.chunks(4).zip(self.then.chunks(4)).enumerate() {
+            let is_erased = torn.contains(&(4 * at)) && word == [255; 4];
+            assert!(word == old || is_erased, "each word as it was or erased");
+        }
+        self.assert_unbootable(left);
+    }
+
+    /// The first word is zero or erased, and the boot check refuses with 1, for any inputs.
+    fn assert_unbootable(&mut self, slot: &[u8]) {
+        let is_hidden = slot[..4] == [0; 4] || slot[..4] == [255; 4];
+        assert!(is_hidden, "the first word is zero or erased");
+        let answer = archive::check(Form::Slot, slot, &any_inputs(&mut self.random));
+        assert_eq!(answer.map_err(|refusal| refusal.number), Err(1));
+    }
+
     /// What holds after any call.
     fn look_at(&mut self, slot: &[u8]) {
         assert!(slot == self.then, "what the calls so far say");
         if !self.erased {
             assert!(slot == self.found, "as found until the first erase");
         } else if !self.stored {
-            assert_eq!(slot[..4], [255; 4], "the first word is erased");
-            let answer = archive::check(Form::Slot, slot, &any_inputs(&mut self.random));
-            assert_eq!(answer.map_err(|refusal| refusal.number), Err(1));
+            self.assert_unbootable(slot);
         } else {
             let (file, after) = slot.split_at(self.file_length);
             assert!(file == self.given, "the file, from Done on");

@@ -23,6 +23,7 @@ mod boards;
 mod calls;
 mod checks;
 mod choices;
+mod cuts;
 mod damage;
 mod driven;
 mod from_c;

@@ -63,12 +63,16 @@ impl Moment {
         let complete = taken / 4 * 4;
 
         let mut slot = random.bytes(slot_length);
+        slot[..4].copy_from_slice(&random.pick(&[[0; 4], [255; 4], *b"TRZV"]));
         slot[..4_096 * erased].fill(255);
         if complete > 4 {
             slot[4..complete].copy_from_slice(&file[4..complete]);
         }
 
-        let mut operations = erased + (complete / 4).saturating_sub(1);
+        let mut operations = 1 + erased + (complete / 4).saturating_sub(1);
+        if erased == 0 && random.one_in(2) {
+            operations = 0;
+        }
         if phase == ACCEPTED {
             operations += 1;
             slot[..4].copy_from_slice(&first_word(&file, random));
@@ -102,6 +106,7 @@ impl Moment {
                 384,
                 385,
                 386,
+                387,
                 1_540,
                 4_096,
                 4_096,

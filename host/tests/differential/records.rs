@@ -141,7 +141,7 @@ fn accepted_too_early() {
     for _ in 0..cases(20_000) {
         let mut moment = Moment::live(&mut random);
         moment.words[0] = 2;
-        moment.words[5] = moment.words[3] + moment.words[4] / 4;
+        moment.words[5] = 1 + moment.words[3] + moment.words[4] / 4;
         moment.slot[..4].copy_from_slice(&moment.words[6].to_le_bytes());
         count_each_call(&moment, &mut random, &mut tally);
     }

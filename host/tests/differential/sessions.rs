@@ -21,7 +21,7 @@ fn sessions_in_memory() {
         assert_eq!(Session::begin(&slot[1..], 2), Err(alone(22)));
         let mut session = Session::begin(&slot, file.len()).expect("good lengths");
         assert_eq!(session.fill(&file, &mut slot), Err(alone(19)));
-        for _ in 0..slot.len() / 4_096 {
+        for _ in 0..=slot.len() / 4_096 {
             assert_eq!(session.erase(&mut slot), Ok(()));
         }
         assert_eq!(session.erase(&mut slot), Err(alone(19)));
@@ -42,7 +42,7 @@ fn sessions_in_memory() {
 
         assert_eq!(session.close(&mut slot, inputs), Ok(()));
         assert!(session.is_over());
-        let operations = slot.len() / 4_096 + file.len() / 4;
+        let operations = slot.len() / 4_096 + file.len() / 4 + 1;
         assert_eq!(session.operations() as usize, operations);
         assert_eq!(slot[..file.len()], file);
         assert_eq!(session.close(&mut slot, inputs), Err(alone(19)));
@@ -78,6 +78,9 @@ fn sessions_by_plans() {
         let mut session = Session::begin(&slot, file.len()).expect("good lengths");
         assert_eq!(session.plan_fill(&file, &slot), Err(alone(19)));
         assert_eq!(session.plan_close(&slot, inputs), Err(alone(19)));
+        let zero = store(&[0; 4], 0);
+        assert_eq!(session.plan_erase(&slot), Ok(zero), "the first erase");
+        make(zero, &mut slot);
         for offset in (0..slot.len()).step_by(4_096) {
             let operation = Operation::ErasePage { offset };
             assert_eq!(session.plan_erase(&slot), Ok(operation));
@@ -162,14 +165,16 @@ fn sessions_with_faulty_files() {
 fn stored_words() {
     let mut slot = [0; 8_192];
     let mut session = Session::begin(&slot, 1_540).expect("good lengths");
-    assert_eq!(session.erase(&mut slot), Ok(()));
-    assert_eq!(session.erase(&mut slot), Ok(()));
+    for words in [[0, 0, 1], [1, 0, 2], [2, 0, 3]] {
+        assert_eq!(session.erase(&mut slot), Ok(()));
+        assert_eq!(session.words()[3..6], words);
+    }
     for piece in [b"abcd", b"efgh"] {
         assert_eq!(session.fill(piece, &mut slot), Ok(4));
     }
     assert_eq!(session.fill(b"i", &mut slot), Ok(1));
     let words = session.words();
-    assert_eq!(words[..6], [1, 8_192, 1_540, 2, 9, 3]);
+    assert_eq!(words[..6], [1, 8_192, 1_540, 2, 9, 4]);
     assert_eq!(words[6], u32::from_le_bytes(*b"abcd"));
     assert_eq!(words[7] & 0xff, b'i'.into());
     assert_eq!(words[8..], [0; 8]);

@@ -10,6 +10,7 @@ use super::image::{
 const PAGE: usize = 4_096;
 const WORD: usize = 4;
 const ERASED: [u8; WORD] = [255; WORD];
+const ZERO: [u8; WORD] = [0; WORD];
 
 /// The numbers that the calls give.
 const FILE_LENGTH: u32 = 18;
@@ -63,9 +64,23 @@ impl Operation {
             Operation::Nothing => (),
             Operation::ErasePage(at) => slot[at..at + PAGE].fill(255),
             Operation::StoreWord(at, word) => {
-                assert_eq!(slot[at..at + WORD], ERASED, "a store over a written word");
+                let may_store = word == ZERO || is_erased(slot, at);
+                assert!(may_store, "a store over a written word");
                 slot[at..at + WORD].copy_from_slice(&word);
             }
+        }
+    }
+
+    /// Makes the operation, and the power is cut in it. Of an erase each word of the page is erased
+    /// or stays, as `chooses` says of each in turn; a store is made or not.
+    pub fn interrupt(self, slot: &mut [u8], chooses: &mut dyn FnMut() -> bool) {
+        match self {
+            Operation::ErasePage(at) => {
+                let words = slot[at..at + PAGE].chunks_mut(WORD);
+                words.filter(|_| chooses()).for_each(|word| word.fill(255));
+            }
+            _ if chooses() => self.make(slot),
+            _ => (),
         }
     }
 }
@@ -128,6 +143,13 @@ impl Record {
         self.all_erased() && self.bytes_taken == self.file_length
     }
 
+    /// Whether the operations are the zero in word 0, the pages erased and the words stored; or
+    /// none was made.
+    fn counts(&self) -> bool {
+        let is_untouched = self.operations == 0 && self.pages_erased == 0;
+        is_untouched || self.operations == 1 + self.pages_erased + self.words_stored()
+    }
+
     /// Whether its numbers agree (10.2).
     fn is_consistent(&self) -> bool {
         !slot_length_is_wrong(self.slot_length)
@@ -135,7 +157,7 @@ impl Record {
             && self.pages_erased <= self.pages()
             && (self.bytes_taken == 0 || self.all_erased())
             && self.bytes_taken <= self.file_length
-            && self.operations == self.pages_erased + self.words_stored()
+            && self.counts()
             && (self.full() || self.phase != ACCEPTED)
     }
 
@@ -157,13 +179,16 @@ impl Record {
     }
 }
 
-/// Erase: the next page, from page 0 up.
+/// Erase: first zero in word 0, then the next page, from page 0 up.
 pub fn plan_erase(record: &mut Record, slot: &[u8]) -> Result<Operation, u32> {
     record.expect(OPEN, slot, |record| !record.all_erased())?;
-    let operation = Operation::ErasePage(record.pages_erased * PAGE);
-    record.pages_erased += 1;
+    let is_first = record.operations == 0;
     record.operations += 1;
-    Ok(operation)
+    if is_first {
+        return Ok(Operation::StoreWord(0, ZERO));
+    }
+    record.pages_erased += 1;
+    Ok(Operation::ErasePage((record.pages_erased - 1) * PAGE))
 }
 
 pub fn erase(record: &mut Record, slot: &mut [u8]) -> Result<(), u32> {

@@ -14,6 +14,8 @@
 //! - The phase of a session follows from its numbers, and a record that no session reaches is
 //!   inconsistent. So erase answers 19 once all pages are erased, and every call does with bytes
 //!   taken while pages are still to be erased.
+//! - The first erase of a session is told by the count alone: it stores zero where no operation was
+//!   made since begin, also if the first word is zero or erased already.
 //! - A phase of a record other than 1 answers 19 in every call, but for confirm, where it is any
 //!   other than 2.
 //! - 23 is answered only where a word would be stored. A fill that completes no word, or the first,

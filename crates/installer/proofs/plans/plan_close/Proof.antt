@@ -13,7 +13,7 @@ use Rattle.flash.specs.Flash.{startsErased}
 use Rattle.image.specs.Check.{checkFile}
 use Rattle.sessions.specs.Record.{full}
 use Rattle.sessions.specs.Calls.{fileIn, judged, closePlan}
-use Rattle.sessions.proofs.Facts.{Sound, passed-full, barred-full}
+use Rattle.sessions.proofs.Facts.{Sound, passed-full, barred-full, counted-most}
 use borrow.Author.Needs.{needs}
 use Rattle.installer.proofs.Told.{plan-told}
 use Rattle.installer.proofs.plans.plan_close.Statement.{statement}
@@ -77,7 +77,7 @@ plan-close-spec =
     (λ c κs. search needs)
     (λ c. search needs)
     (λ c. search needs)
-    (λ c κs. omega (arith, ready (opened (c .before .before .before .before .before .before))))
+    (λ c κs. omega (arith, counted-most _ _ (ready (opened (c .before .before .before .before .before .before)) .0)))
     (λ c. plan-told (c .judged .ensures ∙ sym (judges (c .before .before .before))))
-    (λ c κs. omega (arith, ready (opened (c .before .before .before .before .before .before))))
+    (λ c κs. omega (arith, counted-most _ _ (ready (opened (c .before .before .before .before .before .before)) .0)))
     (λ c. plan-told (c .judged2 .ensures ∙ sym (judges (c .before .before .before)))))

@@ -11,7 +11,7 @@ use Rattle.sessions.specs.declared.Session.{Session}
 use Rattle.flash.specs.Flash.{startsErased}
 use Rattle.sessions.specs.Record.{filling}
 use Rattle.sessions.specs.Calls.{inFirstWord}
-use Rattle.sessions.proofs.Facts.{Sound, passed, barred}
+use Rattle.sessions.proofs.Facts.{Sound, passed, barred, counted-most}
 use Rattle.installer.proofs.Parts.{part-whole}
 use borrow.Author.Needs.{needs}
 use Rattle.installer.proofs.Told.{plan-told}
@@ -71,7 +71,7 @@ returns-4 c =
 took-requires-3 : tie.Need-took-requires-3
 took-requires-3 c κs =
     let j : tie.After-join = c .before .before .before .before .before .before in
-    omega (arith, facts (opened j), j .before .takes .ensures)
+    omega (arith, facts (opened j), counted-most _ _ (facts (opened j)), j .before .takes .ensures)
 
 returns-5 : tie.Need-returns-5
 returns-5 c =
@@ -94,9 +94,9 @@ plan-fill-spec =
     (λ c κs. omega (arith, facts (c .before .before)))
     (λ c κs. search needs)
     (λ c. search needs)
-    (λ c κs. omega (arith, facts (opened (c .before)), c .before .before .takes .ensures))
+    (λ c κs. omega (arith, facts (opened (c .before)), counted-most _ _ (facts (opened (c .before))), c .before .before .takes .ensures))
     returns-2
-    (λ c κs. omega (arith, facts (opened (c .before .before)), c .before .before .before .takes .ensures))
+    (λ c κs. omega (arith, facts (opened (c .before .before)), counted-most _ _ (facts (opened (c .before .before))), c .before .before .before .takes .ensures))
     returns-3
     (λ c. search needs)
     (λ c. omega (arith, facts (opened (c .before .before))))

@@ -15,7 +15,8 @@ sound-spec =
     (λ c κs. search needs)
     (λ c κs. search needs)
     (λ c. search needs)
+    (λ c. search needs)
     (λ c.
-    let w = c .before .before in
+    let w = c .before .before .before .before in
     let f = w .before .before .before .before in
     rw (le-leb _ _ (f .before .before .before .before .if1 .left), ← f .before .slot-len-right .ensures, ← f .file-len-right .ensures, ← w .words-stored .ensures)))
