@@ -12,19 +12,14 @@ use installer::perform;
 use octets::put::put_bytes;
 use sessions::Session;
 
-// Which words of a page a cut leaves erased: of every so many in turn, those from one up to another.
+// Which words of a page a cut leaves erased: those at even places, at odd ones, both or neither.
 struct Torn {
-    of: usize,
-    from: usize,
-    to: usize,
+    even: bool,
+    odd: bool,
 }
 
 fn chosen(torn: Torn, word: usize) -> bool {
-    if torn.of == 0 {
-        return false;
-    }
-    let k = word % torn.of;
-    (torn.from <= k) & (k < torn.to)
+    if word % 2 == 0 { torn.even } else { torn.odd }
 }
 
 // The word at an offset is erased, or stays.
@@ -68,16 +63,16 @@ fn cut_pages(name: &[u8], torn: Torn, old: &[u8; 65536], slot: &mut [u8; 65536])
     print_run(name, run);
 }
 
-fn choice(of: usize, from: usize, to: usize) -> Torn {
-    Torn { of, from, to }
+fn words(even: bool, odd: bool) -> Torn {
+    Torn { even, odd }
 }
 
 // Every way, on every page. The last cut is inside the erase of page 0, and its slot is what is left.
 pub fn cut_each_way(old: &[u8; 65536], slot: &mut [u8; 65536]) {
-    cut_pages(b"no word, ", choice(2, 0, 0), old, slot);
-    cut_pages(b"every word, ", choice(2, 0, 2), old, slot);
-    cut_pages(b"even words, ", choice(2, 0, 1), old, slot);
-    cut_pages(b"odd words, ", choice(2, 1, 2), old, slot);
+    cut_pages(b"no word, ", words(false, false), old, slot);
+    cut_pages(b"every word, ", words(true, true), old, slot);
+    cut_pages(b"even words, ", words(true, false), old, slot);
+    cut_pages(b"odd words, ", words(false, true), old, slot);
     opened(old, slot);
-    tear_page(choice(2, 1, 2), 0, slot);
+    tear_page(words(false, true), 0, slot);
 }
