@@ -1,6 +1,6 @@
 //! The archive's digest against an independent model and Python's hashlib: at every short length,
-//! at unaligned places, and at lengths up to 2 MiB. Then its use of the memory that it is lent,
-//! and the header from C and C++.
+//! at every alignment to a block, and at lengths up to 2 MiB. Then its use of the memory that it is
+//! lent, and the header from C and C++.
 
 mod common;
 mod model;
@@ -69,11 +69,11 @@ fn every_length_up_to_1100() {
 
 /// The bytes around each message are random too, so that a digest of a byte too many is seen.
 #[test]
-fn unaligned_places() {
+fn every_alignment_to_a_block() {
     let buffer = Random::new(2).bytes(512);
-    let aligned = buffer.as_ptr().align_offset(16);
+    let aligned = buffer.as_ptr().align_offset(64);
     let mut messages = Vec::new();
-    for offset in 1..16 {
+    for offset in 0..64 {
         for length in 0..=200 {
             messages.push(&buffer[aligned + offset..][..length]);
         }
@@ -122,6 +122,11 @@ fn assert_writes_at(at: usize, mut message: Vec<u8>) {
     assert_eq!(digest, blake2s(&copy));
     assert!(before.iter().chain(after).all(|byte| *byte == GUARD));
     assert_eq!(message, copy);
+}
+
+#[test]
+fn only_the_lent_bytes_are_read() {
+    c::run_as_c_and_cpp("host/tests/c/place.c");
 }
 
 #[test]

@@ -1,7 +1,10 @@
 /*
  * Times thimmorel_digest and other implementations of BLAKE2s in turn, on the same bytes.
  * Prints, for each size, the time of the other divided by ours: 1.07 says that ours is 7 percent
- * faster. Only ratios are printed, since a time alone says nothing about another machine.
+ * faster. A time alone says nothing about another machine.
+ *
+ * A second table compares our digest by itself, as it is now, with an earlier version of it and
+ * with a form that copies each block.
  */
 
 #define _POSIX_C_SOURCE 200809L
@@ -18,7 +21,7 @@
 
 enum { LARGEST = 2097152 };
 
-static const size_t sizes[] = { 0, 1, 64, 65, 512, 1024, LARGEST };
+static const size_t sizes[] = { 0, 1, 64, 65, 128, 512, 1024, LARGEST };
 
 enum { SIZES = sizeof sizes / sizeof sizes[0] };
 
@@ -75,23 +78,46 @@ static void digest_libb2(const uint8_t *bytes, uint64_t length, uint8_t digest[3
 		fail("libb2 failed");
 }
 
+/* Our digest by itself, each form built in the same way: see `build_alone` in `run`. */
+digest_function digest_now, digest_before, digest_copying;
+
 /* Ours is the first. */
-static const struct implementation implementations[] = {
-	{ "Thimmorel", thimmorel_digest },
-	{ "OpenSSL", digest_openssl },
-	{ "libb2", digest_libb2 },
-	{ "gcc -O3", reference_gcc },
+enum {
+	OURS,
+	OPENSSL,
+	LIBB2,
+	GCC,
 #ifdef WITH_CLANG
-	{ "clang -O3", reference_clang },
+	CLANG,
 #endif
+	OTHERS_END,
+	NOW = OTHERS_END,
+#ifdef WITH_BEFORE
+	BEFORE,
+#endif
+	COPYING,
+	COUNT
 };
 
-enum { COUNT = sizeof implementations / sizeof implementations[0] };
+static const struct implementation implementations[COUNT] = {
+	[OURS] = { "Thimmorel", thimmorel_digest },
+	[OPENSSL] = { "OpenSSL", digest_openssl },
+	[LIBB2] = { "libb2", digest_libb2 },
+	[GCC] = { "gcc -O3", reference_gcc },
+#ifdef WITH_CLANG
+	[CLANG] = { "clang -O3", reference_clang },
+#endif
+	[NOW] = { "now", digest_now },
+#ifdef WITH_BEFORE
+	[BEFORE] = { "before", digest_before },
+#endif
+	[COPYING] = { "copying", digest_copying },
+};
 
 static void expect_agreement(size_t size)
 {
 	uint8_t ours[32], theirs[32];
-	implementations[0].digest(message, size, ours);
+	implementations[OURS].digest(message, size, ours);
 	for (int i = 1; i < COUNT; i++) {
 		implementations[i].digest(message, size, theirs);
 		if (memcmp(ours, theirs, sizeof ours) != 0)
@@ -119,7 +145,7 @@ static double batch_time(digest_function *digest, size_t size, long calls)
 static long calls_in_batch(size_t size)
 {
 	long calls = 1;
-	while (batch_time(implementations[0].digest, size, calls) < batch_seconds)
+	while (batch_time(implementations[OURS].digest, size, calls) < batch_seconds)
 		calls *= 2;
 	return calls;
 }
@@ -141,20 +167,37 @@ static void visit(size_t size, long calls, double best[COUNT])
 		run_round(size, calls, best);
 }
 
-static void print_head(void)
+static void print_others(double best[SIZES][COUNT])
 {
 	printf("\nTheir time divided by ours: above 1, ours is faster.\n%9s", "bytes");
-	for (int i = 1; i < COUNT; i++)
+	for (int i = OURS + 1; i < OTHERS_END; i++)
 		printf("%11s", implementations[i].name);
 	printf("\n");
+	for (int s = 0; s < SIZES; s++) {
+		printf("%9zu", sizes[s]);
+		for (int i = OURS + 1; i < OTHERS_END; i++)
+			printf("%11.2f", best[s][i] / best[s][OURS]);
+		printf("\n");
+	}
 }
 
-static void print_row(size_t size, const double best[COUNT])
+/* The time of a call in nanoseconds, and divided by that of the present form. */
+static void print_forms(double best[SIZES][COUNT], const long calls[SIZES])
 {
-	printf("%9zu", size);
-	for (int i = 1; i < COUNT; i++)
-		printf("%11.2f", best[i] / best[0]);
+	printf("\nOur digest by itself: nanoseconds, and divided by those of now.\n%9s", "bytes");
+	for (int i = NOW; i < COUNT; i++)
+		printf("%11s", implementations[i].name);
+	for (int i = NOW + 1; i < COUNT; i++)
+		printf("%11s", implementations[i].name);
 	printf("\n");
+	for (int s = 0; s < SIZES; s++) {
+		printf("%9zu", sizes[s]);
+		for (int i = NOW; i < COUNT; i++)
+			printf("%11.0f", best[s][i] / (double)calls[s] * 1e9);
+		for (int i = NOW + 1; i < COUNT; i++)
+			printf("%11.2f", best[s][i] / best[s][NOW]);
+		printf("\n");
+	}
 }
 
 int main(void)
@@ -172,9 +215,8 @@ int main(void)
 	for (int pass = 0; pass < PASSES; pass++)
 		for (int s = 0; s < SIZES; s++)
 			visit(sizes[s], calls[s], best[s]);
-	print_head();
-	for (int s = 0; s < SIZES; s++)
-		print_row(sizes[s], best[s]);
+	print_others(best);
+	print_forms(best, calls);
 	openssl_end();
 	return EXIT_SUCCESS;
 }

@@ -6,7 +6,6 @@ use mathlib.Core.Bool.{Bool}
 use Prim.Native.Nat.{ℕ, zero, suc, _+_, _-_, _*_, _/_, _%_, _≤_, _<_, min}
 use native.Mathlib.Nat.{add-zero, sub-zero}
 use native.Mathlib.Omega.{arith}
-use lib.Dec.{leb}
 use lib.ListN.{length, getD, take, drop, replicate, length-append, length-replicate, length-drop, List·getD-append, List·getD-eq-default}
 use lib.Seq.{paste, take-all, length-paste-head, length-take-le, getD-append-add, getD-take, getD-drop}
 use native.Mathlib.Decide.{decLe}
@@ -43,14 +42,13 @@ compressed h m t f p q e = q ∙ ap (folded h) (e ∙ ap (λ (w : List ℕ). rou
 
 -- one block more, at an offset o behind at: what is left after it is what was left before it
 pub absorbed-step : {r b : List ℕ} {t : ℕ} {f : Bool} (m : ℕ → List ℕ) (n : ℕ) (h : List ℕ) (at o end : ℕ) → (at + o) % 64 ≡ 0 → (at + o) / 64 < end
-    → b ≡ m ((at + o) / 64) → t ≡ min (at + o + 64) n → f ≡ leb n (at + o + 64) → r ≡ F h b t f
+    → b ≡ m ((at + o) / 64) → t ≡ counter n ((at + o) / 64) → f ≡ isLast n ((at + o) / 64) → r ≡ F h b t f
     → absorbed m n r ((at + (o + 64)) / 64) (end - (at + (o + 64)) / 64) ≡ absorbed m n h ((at + o) / 64) (end - (at + o) / 64)
 unfolding absorbed
 absorbed-step m n h at o end a l p q u e =
     let z : end - (at + o) / 64 ≡ suc (end - (at + (o + 64)) / 64) = omega arith in
     let y : (at + (o + 64)) / 64 ≡ suc ((at + o) / 64) = omega arith in
-    let x : at + o + 64 ≡ 64 * ((at + o) / 64) + 64 = omega arith in
-    rw (z, e, p, q, u, y, x)
+    rw (z, e, p, q, u, y)
 
 -- a run starts with all of its blocks left
 pub absorbed-count : (m : ℕ → List ℕ) (n : ℕ) (h : List ℕ) (at count : ℕ) → absorbed m n h ((at + 0) / 64) (at / 64 + count - (at + 0) / 64) ≡ absorbed m n h (at / 64) count
@@ -109,7 +107,7 @@ alike-part d i e j len m n l h k g =
     let q : j + m + k ≡ j + (m + k) = omega arith in
     rw (p, q) (h (m + k) (omega arith))
 
-word-alike : (d : List ℕ) (i : ℕ) (e : List ℕ) (j : ℕ) → Alike d i e j 4 → wordAt d i ≡ wordAt e j
+pub word-alike : (d : List ℕ) (i : ℕ) (e : List ℕ) (j : ℕ) → Alike d i e j 4 → wordAt d i ≡ wordAt e j
 unfolding wordAt
 word-alike d i e j h =
     let p : at d i ≡ at e j = rw (add-zero, add-zero) at (h 0 (omega arith)) in
@@ -125,7 +123,7 @@ four-alike d i e j h =
       word-alike d (i + 12) e (j + 12) (alike-part d i e j 16 12 4 (omega arith) h),
     )
 
-block-alike : (d : List ℕ) (i : ℕ) (e : List ℕ) (j : ℕ) → Alike d i e j 64 → blockAt d i ≡ blockAt e j
+pub block-alike : (d : List ℕ) (i : ℕ) (e : List ℕ) (j : ℕ) → Alike d i e j 64 → blockAt d i ≡ blockAt e j
 unfolding blockAt
 block-alike d i e j h =
     rw (
@@ -141,9 +139,6 @@ block-alike d i e j h =
 module _ (d s : List ℕ) (at n : ℕ) (room : at + n ≤ length d) (there : n ≤ length s) where
   head-length : length (take at d) ≡ at
   head-length = length-take-le at d (omega arith)
-
-  part-length : length (take n s) ≡ n
-  part-length = length-take-le n s there
 
   both-length : length (take at d ++ take n s) ≡ at + n
   both-length = length-paste-head d at s n (omega arith) there
@@ -234,7 +229,7 @@ run-one c m k e j g h =
 -- ---- a message of some bytes w, those of s, and 65 zeros
 
 -- zeros past the end change nothing that is read
-padded : (s : List ℕ) (z j : ℕ) → getD (s ++ replicate z 0) j 0 ≡ getD s j 0
+pub padded : (s : List ℕ) (z j : ℕ) → getD (s ++ replicate z 0) j 0 ≡ getD s j 0
 padded [] zero j = refl
 padded [] (suc z) zero = refl
 padded [] (suc z) (suc j) = padded [] z j

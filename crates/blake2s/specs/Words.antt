@@ -2,6 +2,7 @@
 use mathlib.Core.List.{List, [], _∷_}
 use Prim.Native.Nat.{ℕ}
 use Rattle.blake2s.specs.declared.mixing.Quad.{Quad}
+use Rattle.blake2s.specs.declared.mixing.Triples.{Triples}
 use Rattle.blake2s.specs.declared.mixing.Work.{Work}
 use Rattle.blake2s.specs.declared.mixing.Block.{Block}
 use Rattle.blake2s.specs.declared.mixing.State.{State}
@@ -9,6 +10,16 @@ use Rattle.blake2s.specs.declared.blocks.Bytes.{Bytes}
 
 abbrev pub quad : Quad → List ℕ
 quad r = r .a ∷ r .b ∷ r .c ∷ r .d ∷ []
+
+-- the words of the first, the second and the third of three Gs
+abbrev pub firsts : Triples → List ℕ
+firsts r = r .a .x ∷ r .b .x ∷ r .c .x ∷ r .d .x ∷ []
+
+abbrev pub seconds : Triples → List ℕ
+seconds r = r .a .y ∷ r .b .y ∷ r .c .y ∷ r .d .y ∷ []
+
+abbrev pub thirds : Triples → List ℕ
+thirds r = r .a .z ∷ r .b .z ∷ r .c .z ∷ r .d .z ∷ []
 
 abbrev pub work : Work → List ℕ
 work r = r .v0 ∷ r .v1 ∷ r .v2 ∷ r .v3 ∷ r .v4 ∷ r .v5 ∷ r .v6 ∷ r .v7 ∷ r .v8 ∷ r .v9 ∷ r .v10 ∷ r .v11 ∷ r .v12 ∷ r .v13 ∷ r .v14 ∷ r .v15 ∷ []

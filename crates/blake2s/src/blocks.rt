@@ -1,20 +1,20 @@
 // Section 2.4 and 3.3 of RFC 7693: the blocks of a message as words, the loop over them, and the
 // state as bytes.
 //
-// The loop takes a start state and a first block, so that a message may be hashed in slices. Only a
-// block that reaches past the end of the lent bytes is copied.
+// The loop takes a start state and a first block, so that a message may be hashed in slices. A
+// block that lies in the lent bytes whole is mixed where it lies, the last one too. Only a block
+// that starts before them or reaches past their end is copied.
 use crate::mixing::Block;
 use crate::mixing::Quad;
 use crate::mixing::State;
 use crate::mixing::compress;
 ghost use mathlib.Core.Path.{_≡_};
-ghost use mathlib.Core.List.{[], _∷_, _++_};
+ghost use mathlib.Core.List.{_++_};
 ghost use Prim.Native.Nat.{_<_, _≤_, _+_, _-_, _*_, _/_, _%_, _^_, min};
-ghost use lib.Dec.{leb};
 ghost use lib.ListN.{length};
 ghost use lib.Seq.{paste};
-ghost use Rattle.blake2s.specs.Rfc7693.{wordAt, fourAt, blockAt, blockCount, absorbed, initial, bytesOf, serialised};
-ghost use Rattle.blake2s.specs.Parts.{blockOf, runAt, zeroTailed};
+ghost use Rattle.blake2s.specs.Rfc7693.{F, wordAt, fourAt, blockAt, blockCount, isLast, counter, absorbed, initial, bytesOf, serialised};
+ghost use Rattle.blake2s.specs.Parts.{blockOf, runAt, wholeBlocks, zeroTailed};
 ghost use Rattle.blake2s.specs.Words.{quad, four, block, state};
 
 fn wide(x: u8) -> u32
@@ -73,9 +73,17 @@ fn block_at(s: &[u8], i: usize) -> Block
     }
 }
 
-// The bytes with the first n of s copied over them at an offset.
+// The state after the 64 bytes at i. Each word is read once, where it lies, and no array is made.
+fn mix_at(s: &[u8], i: usize, h: State, t: u64, last: bool) -> State
+    requires { ⌜ i + 63 < length (now s) ⌝ }
+    ensures { λ r. ⌜ state r ≡ F (state h) (blockAt (now (s .entry)) i) t last ⌝ }
+{
+    compress(h, block_at(s, i), t, last)
+}
+
+// The bytes with the first n of s copied over them at an offset. Never all 64 are.
 fn copied(bytes: [u8; 64], at: usize, s: &[u8], n: usize) -> [u8; 64]
-    requires { ⌜ (at + n ≤ 64) × (n ≤ length (now s)) ⌝ }
+    requires { ⌜ (n < 64) × (at + n ≤ 64) × (n ≤ length (now s)) ⌝ }
     ensures { λ r. ⌜ (r ≡ paste bytes at (now (s .entry)) n) × (length bytes ≡ 64) ⌝ }
 {
     let mut block = bytes;
@@ -94,8 +102,9 @@ fn lesser(a: usize, b: usize) -> usize
     if a <= b { a } else { b }
 }
 
-// The 64 bytes at i, with zeros past the end of s.
+// The 64 bytes at i, with zeros past the end of s, which is before theirs.
 fn padded(s: &[u8], i: usize) -> [u8; 64]
+    requires { ⌜ length (now s) < i + 64 ⌝ }
     ensures { λ r. ⌜ blockAt r 0 ≡ blockAt (now (s .entry)) i ⌝ }
 {
     if s.len() <= i {
@@ -121,23 +130,23 @@ pub fn block_count(n: usize) -> usize
 
 // Whether the block at an offset is the last of n bytes.
 fn is_last(n: usize, at: usize) -> bool
-    requires { ⌜ at < 2 ^ 63 + 512 ⌝ }
-    ensures { λ r. ⌜ r ≡ leb n (at + 64) ⌝ }
+    requires { ⌜ (at % 64 ≡ 0) × (at < 2 ^ 63 + 512) ⌝ }
+    ensures { λ r. ⌜ r ≡ isLast n (at / 64) ⌝ }
 {
     n <= at + 64
 }
 
 // The message's bytes up to the end of the block at an offset.
 fn counter(n: usize, at: usize) -> u64
-    requires { ⌜ at < 2 ^ 63 + 512 ⌝ }
-    ensures { λ r. ⌜ r ≡ min (at + 64) n ⌝ }
+    requires { ⌜ (at % 64 ≡ 0) × (at < 2 ^ 63 + 512) ⌝ }
+    ensures { λ r. ⌜ r ≡ counter n (at / 64) ⌝ }
 {
     let end = at + 64;
     if end <= n { end as u64 } else { n as u64 }
 }
 
 // The state after count blocks that lie together in s from i on. They stand at offset at of a
-// message of n bytes. This is the one loop that mixes, and it reads each word where it lies.
+// message of n bytes. This is the one loop that mixes.
 fn absorb_run(h: State, s: &[u8], i: usize, count: usize, n: usize, at: usize) -> State
     requires { ⌜ (i + 64 * count ≤ length (now s)) × (at % 64 ≡ 0) × (at + 64 * count < 2 ^ 63 + 512) ⌝ }
     ensures { λ r. ⌜ state r ≡ absorbed (runAt (now (s .entry)) i (at / 64)) n (state h) (at / 64) count ⌝ }
@@ -146,21 +155,17 @@ fn absorb_run(h: State, s: &[u8], i: usize, count: usize, n: usize, at: usize) -
     let mut now = h;
     let mut o: usize = 0;
     while o < end {
-        now = compress(
-            now,
-            block_at(s, i + o),
-            counter(n, at + o),
-            is_last(n, at + o),
-        );
+        now = mix_at(s, i + o, now, counter(n, at + o), is_last(n, at + o));
         o += 64;
     }
     now
 }
 
-// How many blocks from offset at up to stop lie in lent bytes of len, skip places earlier, whole.
+// How many blocks, one after another from the one at offset at and up to stop, lie whole in len
+// lent bytes, which start at offset skip of the message. None if the first starts before them.
 fn whole_blocks(len: usize, skip: usize, at: usize, stop: usize) -> usize
     requires { ⌜ at ≤ stop ⌝ }
-    ensures { λ r. ⌜ (r ≤ (stop - at) / 64) × (0 < r → (skip ≤ at) × (at - skip + 64 * r ≤ len)) ⌝ }
+    ensures { λ r. ⌜ r ≡ wholeBlocks len skip at stop ⌝ }
 {
     if at < skip {
         return 0;
@@ -172,10 +177,11 @@ fn whole_blocks(len: usize, skip: usize, at: usize, stop: usize) -> usize
     lesser((len - i) / 64, (stop - at) / 64)
 }
 
-// The 64 bytes of the block at an offset, copied together: the message's first skip bytes stand in
-// first, as a block, and the others in s.
+// The 64 bytes of the block at an offset: first, if it starts before skip, and else those that
+// stand skip places earlier in s, with zeros past its end. A block that lies whole in s may not be
+// copied.
 fn block_copy(first: [u8; 64], s: &[u8], skip: usize, at: usize) -> [u8; 64]
-    requires { ⌜ at % 64 ≡ 0 ⌝ }
+    requires { ⌜ (at % 64 ≡ 0) × (skip ≤ at → length (now s) < at - skip + 64) ⌝ }
     ensures { λ r. ⌜ blockAt r 0 ≡ blockOf first (now (s .entry)) skip (at / 64) ⌝ }
 {
     if at < skip {

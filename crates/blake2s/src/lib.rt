@@ -2,8 +2,9 @@
 //
 // Every function here is proved, and the crate assumes nothing of its own. The digests equal the
 // definition in `specs/Rfc7693.antt` on any bytes of any length: no public function has a
-// `requires`. Full blocks are read straight from the lent bytes. Only a block that reaches past
-// their end is copied, 64 bytes of it.
+// `requires`. A block that lies in the lent bytes whole is read straight from them, the last one
+// too. Only a block with bytes from elsewhere, zeros or a word given apart, is copied, 64 bytes of
+// it.
 mod blocks;
 mod mixing;
 pub mod theorems;

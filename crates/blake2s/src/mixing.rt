@@ -1,13 +1,17 @@
 // Section 3.1 and 3.2 of RFC 7693: the mixing function G and the compression function F.
 //
-// The sixteen words of the work vector are a struct by value, so that they stay in registers. A
-// round is two half rounds, and each mixes four words at a time.
+// The sixteen words of the work vector are a struct by value; the compiler chooses where to keep
+// them. A round is two half rounds, and each is four Gs, none of which waits for another, while a
+// step of G waits for the step before it. One G is written by itself, and the other three step by
+// step together. For x86-64 the compiler makes code of this order in which, in most half rounds, a
+// step of another G is made while one waits. docs/DECISIONS.md says how the order was found.
 use std::num::wrapping_add_u32;
 ghost use mathlib.Core.Path.{_≡_};
 ghost use mathlib.Core.List.{[], _∷_};
 ghost use Prim.Native.Nat.{_+_, _<_};
 ghost use Rattle.blake2s.specs.Rfc7693.{plus, rotr, G, columns, diagonals, inverting, workVector, folded, F};
-ghost use Rattle.blake2s.specs.Words.{quad, work, block, state};
+ghost use lib.Bits.{bitXor};
+ghost use Rattle.blake2s.specs.Words.{quad, firsts, seconds, thirds, work, block, state};
 
 // The eight words of the state between blocks.
 pub struct State {
@@ -69,6 +73,21 @@ pub struct Quad {
     pub d: u32,
 }
 
+// A word of each of three Gs.
+pub struct Triple {
+    pub x: u32,
+    pub y: u32,
+    pub z: u32,
+}
+
+// The four words that each of three Gs changes.
+pub struct Triples {
+    pub a: Triple,
+    pub b: Triple,
+    pub c: Triple,
+    pub d: Triple,
+}
+
 // x rotated to the right by n bits.
 fn rotr(x: u32, n: u32) -> u32
     requires { ⌜ (0 < n) × (n < 32) ⌝ }
@@ -104,35 +123,103 @@ fn g(a: u32, b: u32, c: u32, d: u32, x: u32, y: u32) -> Quad
     }
 }
 
-// The first half of a round: G on the four columns of v.
-fn columns(v: Work, x0: u32, x1: u32, x2: u32, x3: u32, x4: u32, x5: u32, x6: u32, x7: u32) -> Work
-    ensures { λ r. ⌜ work r ≡ columns (work v) x0 x1 x2 x3 x4 x5 x6 x7 ⌝ }
+// Three words as one value.
+fn three(x: u32, y: u32, z: u32) -> Triple
+    ensures { λ r. ⌜ (r .x ≡ x) × (r .y ≡ y) × (r .z ≡ z) ⌝ }
 {
-    let q0 = g(v.v0, v.v4, v.v8, v.v12, x0, x1);
-    let q1 = g(v.v1, v.v5, v.v9, v.v13, x2, x3);
-    let q2 = g(v.v2, v.v6, v.v10, v.v14, x4, x5);
-    let q3 = g(v.v3, v.v7, v.v11, v.v15, x6, x7);
-    Work {
-        v0: q0.a,
-        v1: q1.a,
-        v2: q2.a,
-        v3: q3.a,
-        v4: q0.b,
-        v5: q1.b,
-        v6: q2.b,
-        v7: q3.b,
-        v8: q0.c,
-        v9: q1.c,
-        v10: q2.c,
-        v11: q3.c,
-        v12: q0.d,
-        v13: q1.d,
-        v14: q2.d,
-        v15: q3.d,
+    Triple { x, y, z }
+}
+
+// The sums of two words in each of three Gs.
+fn sums(a: Triple, b: Triple) -> Triple
+    ensures { λ r. ⌜ (r .x ≡ plus (a .x) (b .x)) × (r .y ≡ plus (a .y) (b .y)) × (r .z ≡ plus (a .z) (b .z)) ⌝ }
+{
+    Triple {
+        x: wrapping_add_u32(a.x, b.x),
+        y: wrapping_add_u32(a.y, b.y),
+        z: wrapping_add_u32(a.z, b.z),
     }
 }
 
-// The second half of a round: G on the four diagonals of v.
+// The sums of three words in each of three Gs.
+fn sums3(a: Triple, b: Triple, c: Triple) -> Triple
+    ensures { λ r. ⌜ (r .x ≡ plus (a .x + b .x) (c .x)) × (r .y ≡ plus (a .y + b .y) (c .y)) × (r .z ≡ plus (a .z + b .z) (c .z)) ⌝ }
+{
+    Triple {
+        x: sum3(a.x, b.x, c.x),
+        y: sum3(a.y, b.y, c.y),
+        z: sum3(a.z, b.z, c.z),
+    }
+}
+
+// A word of each of three Gs, xor another, rotated to the right by n bits.
+fn turned(a: Triple, b: Triple, n: u32) -> Triple
+    requires { ⌜ (0 < n) × (n < 32) ⌝ }
+    ensures { λ r. ⌜ (r .x ≡ rotr (bitXor (a .x) (b .x)) n) × (r .y ≡ rotr (bitXor (a .y) (b .y)) n) × (r .z ≡ rotr (bitXor (a .z) (b .z)) n) ⌝ }
+{
+    Triple {
+        x: rotr(a.x ^ b.x, n),
+        y: rotr(a.y ^ b.y, n),
+        z: rotr(a.z ^ b.z, n),
+    }
+}
+
+// The mixing function G, three times, step by step together.
+fn g3(a: Triple, b: Triple, c: Triple, d: Triple, x: Triple, y: Triple) -> Triples
+    ensures { λ r. ⌜ (firsts r ≡ G (a .x ∷ b .x ∷ c .x ∷ d .x ∷ []) 0 1 2 3 (x .x) (y .x)) × (seconds r ≡ G (a .y ∷ b .y ∷ c .y ∷ d .y ∷ []) 0 1 2 3 (x .y) (y .y)) × (thirds r ≡ G (a .z ∷ b .z ∷ c .z ∷ d .z ∷ []) 0 1 2 3 (x .z) (y .z)) ⌝ }
+{
+    let a1 = sums3(a, b, x);
+    let d1 = turned(d, a1, 16);
+    let c1 = sums(c, d1);
+    let b1 = turned(b, c1, 12);
+    let a2 = sums3(a1, b1, y);
+    let d2 = turned(d1, a2, 8);
+    let c2 = sums(c1, d2);
+    let b2 = turned(b1, c2, 7);
+    Triples {
+        a: a2,
+        b: b2,
+        c: c2,
+        d: d2,
+    }
+}
+
+// The first half of a round: G on the four columns of v. The second is by itself, and the fourth,
+// the third and the first are together.
+fn columns(v: Work, x0: u32, x1: u32, x2: u32, x3: u32, x4: u32, x5: u32, x6: u32, x7: u32) -> Work
+    ensures { λ r. ⌜ work r ≡ columns (work v) x0 x1 x2 x3 x4 x5 x6 x7 ⌝ }
+{
+    let q = g(v.v1, v.v5, v.v9, v.v13, x2, x3);
+    let p = g3(
+        three(v.v3, v.v2, v.v0),
+        three(v.v7, v.v6, v.v4),
+        three(v.v11, v.v10, v.v8),
+        three(v.v15, v.v14, v.v12),
+        three(x6, x4, x0),
+        three(x7, x5, x1),
+    );
+    Work {
+        v0: p.a.z,
+        v1: q.a,
+        v2: p.a.y,
+        v3: p.a.x,
+        v4: p.b.z,
+        v5: q.b,
+        v6: p.b.y,
+        v7: p.b.x,
+        v8: p.c.z,
+        v9: q.c,
+        v10: p.c.y,
+        v11: p.c.x,
+        v12: p.d.z,
+        v13: q.d,
+        v14: p.d.y,
+        v15: p.d.x,
+    }
+}
+
+// The second half of a round: G on the four diagonals of v. The first is by itself, and the others
+// are together.
 fn diagonals(
     v: Work,
     x0: u32,
@@ -146,27 +233,32 @@ fn diagonals(
 ) -> Work
     ensures { λ r. ⌜ work r ≡ diagonals (work v) x0 x1 x2 x3 x4 x5 x6 x7 ⌝ }
 {
-    let q0 = g(v.v0, v.v5, v.v10, v.v15, x0, x1);
-    let q1 = g(v.v1, v.v6, v.v11, v.v12, x2, x3);
-    let q2 = g(v.v2, v.v7, v.v8, v.v13, x4, x5);
-    let q3 = g(v.v3, v.v4, v.v9, v.v14, x6, x7);
+    let q = g(v.v0, v.v5, v.v10, v.v15, x0, x1);
+    let p = g3(
+        three(v.v1, v.v2, v.v3),
+        three(v.v6, v.v7, v.v4),
+        three(v.v11, v.v8, v.v9),
+        three(v.v12, v.v13, v.v14),
+        three(x2, x4, x6),
+        three(x3, x5, x7),
+    );
     Work {
-        v0: q0.a,
-        v1: q1.a,
-        v2: q2.a,
-        v3: q3.a,
-        v4: q3.b,
-        v5: q0.b,
-        v6: q1.b,
-        v7: q2.b,
-        v8: q2.c,
-        v9: q3.c,
-        v10: q0.c,
-        v11: q1.c,
-        v12: q1.d,
-        v13: q2.d,
-        v14: q3.d,
-        v15: q0.d,
+        v0: q.a,
+        v1: p.a.x,
+        v2: p.a.y,
+        v3: p.a.z,
+        v4: p.b.z,
+        v5: q.b,
+        v6: p.b.x,
+        v7: p.b.y,
+        v8: p.c.y,
+        v9: p.c.z,
+        v10: q.c,
+        v11: p.c.x,
+        v12: p.d.x,
+        v13: p.d.y,
+        v14: p.d.z,
+        v15: q.d,
     }
 }
 

@@ -8,6 +8,7 @@ use Rattle.blake2s.specs.Rfc7693.{absorbed}
 use Rattle.blake2s.specs.Parts.{blockOf}
 use Rattle.blake2s.specs.Words.{state}
 use Rattle.blake2s.proofs.Laws.{absorbed-run, absorbed-all, absorbed-from, run-in, run-one}
+use Rattle.blake2s.proofs.InPlace.{whole-fits, not-whole}
 use Rattle.blake2s.proofs.blocks.absorb.Statement.{statement}
 use Rattle.blake2s.proofs.blocks.absorb.Tie as tie
 
@@ -27,10 +28,11 @@ loop-again : tie.Need-loop-again Inv-loop μ-loop
 loop-again c =
     let l = c .before .before .before .before .loop in
     let a = c .before .before .before .before .before .before .args in
-    let k = c .before .before .whole-blocks in (
+    let k = c .before .before .whole-blocks in
+    let f = whole-fits _ _ _ _ (k .ensures) in (
+      omega (arith, f .0),
       omega arith,
-      omega arith,
-      absorbed-run _ _ _ _ (l .at) (k .result) _ (l .inv .1) (omega arith) (λ j g h. run-in (a .first) (now (a .s)) (a .skip) (l .at) (k .ensures .1 (c .before .if1 .taken) .0) (l .inv .1) j g) (c .absorb-run .ensures)
+      absorbed-run _ _ _ _ (l .at) (k .result) _ (l .inv .1) (omega (arith, f .0)) (λ j g h. run-in (a .first) (now (a .s)) (a .skip) (l .at) (f .1 (c .before .if1 .taken) .0) (l .inv .1) j g) (c .absorb-run .ensures)
           ∙ l .inv .2,
     )
 
@@ -58,13 +60,13 @@ absorb-spec =
     (λ c. omega arith)
     loop-holds
     (λ c κs. omega arith)
-    (λ c. omega (arith, c .before .whole-blocks .ensures .1 (c .if1 .taken) .0))
-    (λ c κs. (c .before .whole-blocks .ensures .1 (c .if1 .taken) .1, c .before .before .before .loop .inv .1, omega arith))
-    (λ c. omega arith)
-    (λ c. omega arith)
+    (λ c. omega (arith, whole-fits _ _ _ _ (c .before .whole-blocks .ensures) .1 (c .if1 .taken)))
+    (λ c κs. let f = whole-fits _ _ _ _ (c .before .whole-blocks .ensures) in (omega (arith, f .1 (c .if1 .taken)), c .before .before .before .loop .inv .1, omega (arith, f .0)))
+    (λ c. omega (arith, whole-fits _ _ _ _ (c .before .before .whole-blocks .ensures) .0))
+    (λ c. omega (arith, whole-fits _ _ _ _ (c .before .before .whole-blocks .ensures) .0))
     (λ c. omega arith)
     loop-again
-    (λ c κs. search needs)
+    (λ c κs. let l = c .before .before .before .loop in (l .inv .1, λ h. omega (arith, not-whole _ _ _ _ (c .before .whole-blocks .ensures) (omega arith) (omega arith) h)))
     (λ c. search needs)
     (λ c κs. search needs)
     (λ c. omega arith)

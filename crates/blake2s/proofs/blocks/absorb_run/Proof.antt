@@ -24,13 +24,13 @@ loop-holds c = (omega arith, omega arith, absorbed-count _ _ _ (c .before .args 
 
 loop-again : tie.Need-loop-again Inv-loop μ-loop
 loop-again c =
-    let l = c .before .before .before .before .before .loop in
-    let a = c .before .before .before .before .before .before .before .args in (
+    let l = c .before .before .before .before .loop in
+    let a = c .before .before .before .before .before .before .args in (
       omega arith,
       omega arith,
       absorbed-step _ _ _ (a .at) (l .o) _ (omega arith) (omega arith)
-          (c .before .before .before .block-at .ensures ∙ run-at (now (a .s)) (a .i) (a .at) (l .o) (omega arith) (l .inv .1))
-          (c .before .before .counter .ensures) (c .before .is-last .ensures) (c .compress .ensures)
+          (run-at (now (a .s)) (a .i) (a .at) (l .o) (omega arith) (l .inv .1))
+          (c .before .before .counter .ensures) (c .before .is-last .ensures) (c .mix-at .ensures)
           ∙ l .inv .2,
     )
 
@@ -49,12 +49,11 @@ absorb-run-spec =
     (λ c. omega arith)
     loop-holds
     (λ c. omega arith)
-    (λ c κs. omega arith)
     (λ c. omega arith)
     (λ c κs. omega arith)
     (λ c. omega arith)
     (λ c κs. omega arith)
-    (λ c κs. tt)
+    (λ c κs. omega arith)
     (λ c. omega arith)
     (λ c. omega arith)
     loop-again
