@@ -11,7 +11,7 @@ use lib.Seq.{drop-drop, getD-append-add, getD-drop}
 use borrow.Author.Tests.{lt-ltb, le-ltb, le-leb, lt-leb}
 use Rattle.blake2s.specs.Rfc7693.{at, F, wordAt, fourAt, blockAt, blockCount, isLast, counter, absorbed, initial, serialised, blake2sOf}
 use Rattle.blake2s.specs.Parts.{wholeBlocks}
-use Rattle.blake2s.specs.Theorems.{numberOf, wordsOf, mixedBefore, BlocksInPlace}
+use Rattle.blake2s.specs.Theorems.{littleEndian, wordsOf, mixedBefore, BlocksInPlace}
 use Rattle.blake2s.proofs.Laws.{word-alike, block-alike, padded, resumed}
 
 -- ---- how many blocks lie whole
@@ -43,8 +43,8 @@ whole-lent len skip at stop j h =
 -- ---- a block by itself
 
 -- a word as a number
-word-number : (b : List ℕ) → numberOf (take 4 b) ≡ wordAt b 0
-unfolding numberOf wordAt
+word-number : (b : List ℕ) → littleEndian (take 4 b) ≡ wordAt b 0
+unfolding littleEndian wordAt
 word-number [] = refl
 word-number (w ∷ []) = omega arith
 word-number (w ∷ x ∷ []) = omega arith

@@ -13,14 +13,14 @@ abbrev pub Resumable : Type 0
 Resumable = (m : ℕ → List ℕ) (n : ℕ) (h : List ℕ) (k a b : ℕ) → absorbed m n h k (a + b) ≡ absorbed m n (absorbed m n h k a) (k + a) b
 
 -- the number whose bytes these are, the least first (section 2.4)
-unfoldable pub numberOf : List ℕ → ℕ
-numberOf [] = 0
-numberOf (x ∷ s) = x + 256 * numberOf s
+unfoldable pub littleEndian : List ℕ → ℕ
+littleEndian [] = 0
+littleEndian (x ∷ s) = x + 256 * littleEndian s
 
 -- the first n words of bytes, four bytes each
 unfoldable pub wordsOf : ℕ → List ℕ → List ℕ
 wordsOf zero b = []
-wordsOf (suc n) b = numberOf (take 4 b) ∷ wordsOf n (drop 4 b)
+wordsOf (suc n) b = littleEndian (take 4 b) ∷ wordsOf n (drop 4 b)
 
 -- section 3.3's loop over the blocks of d before block k: the counter of each is the number of bytes up to its end, and none is flagged
 unfoldable pub mixedBefore : List ℕ → ℕ → List ℕ
