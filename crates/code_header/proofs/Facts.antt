@@ -1,15 +1,18 @@
--- What a passing test says of numbers.
+-- What a passing test says of numbers, and of a magic.
 -- Assumes nothing.
-use Prim.Native.Nat.{ℕ, _^_, _%_, _≤_}
-use mathlib.Core.Path.{_≡_, refl}
+use Prim.Native.Nat.{ℕ, _+_, _-_, _^_, _%_, _≤_}
+use mathlib.Core.Path.{_≡_, refl, ap₂}
+use mathlib.Core.List.{List, [], _∷_}
 use mathlib.Core.Bool.{Bool, true, false, not, _||_}
 use native.Mathlib.Omega.{arith}
 use lib.Dec.{ltb, eqb}
+use lib.ListN.{length, take, drop, length-take}
 use borrow.Author.Tests.{ltb-false, le-ltb, leb-false, lt-leb, eqb-true, eqb-false, eq-eqb, ne-eqb, not-false}
-use Rattle.octets.specs.Read.{bitAtOrAbove, onesOf}
+use Rattle.octets.specs.Read.{between, startsWith, bitAtOrAbove, onesOf}
 use Rattle.octets.specs.Rounding.{multipleOf}
-use Rattle.octets.proofs.Laws.{or-left, or-right}
-use Rattle.code_header.specs.Tests.{expired, maskWrong, codeLenOutside}
+use Rattle.octets.proofs.Laws.{and-left, and-right, or-left, or-right}
+use Rattle.code_header.specs.Tests.{expired, maskWrong, codeLenOutside, magicMissingAt}
+use Rattle.code_header.specs.Layout.{magicAt}
 use Rattle.code_header.specs.Signers.{Signers}
 
 -- a length of code within a limit
@@ -58,3 +61,38 @@ mask-signed m n mask h =
 pub signed-mask : (m n mask : ℕ) → Signers m n mask → maskWrong m n mask ≡ false
 unfolding bitAtOrAbove onesOf
 signed-mask m n mask s = rw (lt-leb (2 ^ n) mask (s .within), eq-eqb (onesOf mask) m (s .count))
+
+-- ---- the magic
+
+-- bytes that start with a magic, and are no longer, are the magic
+starts-are : (m s : List ℕ) → startsWith m s ≡ true → length s ≤ length m → s ≡ m
+starts-are [] [] h l = refl
+starts-are [] (y ∷ s) h l = absurd (omega arith)
+starts-are (x ∷ m) [] h l = cc
+starts-are (x ∷ m) (y ∷ s) h l =
+    ap₂ (λ (z : ℕ) (t : List ℕ). z ∷ t) (eqb-true y x (and-left _ _ h)) (starts-are m s (and-right (eqb y x) _ h) (omega arith))
+
+starts-self : (m : List ℕ) → startsWith m m ≡ true
+starts-self [] = refl
+starts-self (x ∷ m) = rw (eq-eqb x x refl) (starts-self m)
+
+-- four letters at an offset
+module _ (b : List ℕ) (at : ℕ) (letters : List ℕ) (four : length letters ≡ 4) where
+  magic-is : magicAt b at ≡ take 4 (drop at b)
+  unfolding between
+  magic-is = let e : at + 4 - at ≡ 4 = omega arith in rw e
+
+  pub magic-stands : magicMissingAt b at letters ≡ false → take 4 (drop at b) ≡ letters
+  magic-stands h =
+      let l = length-take 4 (drop at b) in
+      starts-are letters (take 4 (drop at b)) (rw (← magic-is) (not-false _ h)) (omega arith)
+
+  pub magic-passes : take 4 (drop at b) ≡ letters → magicMissingAt b at letters ≡ false
+  magic-passes h = rw (magic-is, h, starts-self)
+
+  pub magic-missing : (take 4 (drop at b) ≡ letters → ⊥) → magicMissingAt b at letters ≡ true
+  magic-missing h = go (magicMissingAt b at letters) refl
+    where
+      go : (t : Bool) → magicMissingAt b at letters ≡ t → magicMissingAt b at letters ≡ true
+      go true e = e
+      go false e = absurd (h (magic-stands e))

@@ -42,9 +42,9 @@ hdrLenWrongAt b at = not (eqb (hdrLenAt b at) 1024)
 abbrev pub codeLenWrongAt : List ℕ → ℕ → ℕ → Bool
 codeLenWrongAt b at most = codeLenOutside most (codeLenAt b at)
 
--- S17: the 8 bytes from 24 on, and the 415 from 544 on
-abbrev pub bytesNotZeroAt : List ℕ → ℕ → Bool
-bytesNotZeroAt b at = not (allAre 0 (between (at + 24) (at + 32) b) && allAre 0 (between (at + 544) (at + 959) b))
+-- S17: the 8 bytes from 24 on, and those from a gap up to its end
+abbrev pub bytesNotZeroAt : List ℕ → ℕ → ℕ → ℕ → Bool
+bytesNotZeroAt b at gap end = not (allAre 0 (between (at + 24) (at + 32) b) && allAre 0 (between (at + gap) (at + end) b))
 
 -- S18
 abbrev pub expiredAt : List ℕ → ℕ → ℕ → Bool

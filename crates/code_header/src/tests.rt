@@ -57,11 +57,13 @@ pub fn code_len_wrong_at(b: &[u8], at: u32, most: usize) -> bool
     code_len_outside(most, code_len_at(b, at) as usize)
 }
 
-pub fn bytes_not_zero_at(b: &[u8], at: u32) -> bool
-    ensures { λ r. ⌜ r ≡ bytesNotZeroAt (now (b .entry)) at ⌝ }
+pub fn bytes_not_zero_at(b: &[u8], at: u32, gap: u32, end: u32) -> bool
+    ensures { λ r. ⌜ r ≡ bytesNotZeroAt (now (b .entry)) at gap end ⌝ }
 {
     let from = at as usize;
-    !(all_are(part(b, from + 24, from + 32), 0) & all_are(part(b, from + 544, from + 959), 0))
+    let first = part(b, from + 24, from + 32);
+    let later = part(b, from + gap as usize, from + end as usize);
+    !(all_are(first, 0) & all_are(later, 0))
 }
 
 pub fn expired_at(b: &[u8], at: u32, time: u32) -> bool

@@ -12,9 +12,9 @@ use lib.Dec.{ltb, eqb}
 use borrow.Author.Tests.{lt-ltb, le-ltb, ltb-false}
 use Rattle.octets.specs.Read.{u32At, between, bytesAt, allAre, startsWith}
 use Rattle.octets.proofs.Laws.{split}
-use Rattle.code_header.specs.Tests.{expired, maskWrong}
+use Rattle.code_header.specs.Tests.{expired, maskWrong, codeCutAt}
 use Rattle.header.specs.Layout.{TRZF, vendorLen, signersNeeded, keyCount, stringLen, stringLenAt, stringEnd, pictureStart, maskAt, codeLen, imageLen, firstRoom}
-use Rattle.header.specs.Steps.{keysImpossible, lengthImpossible, codeLenImpossible, shorterThanAnyHeader, vendorLenImpossible, vendorHeaderCut, vendorKeysImpossible, stringLeavesNoRoom, vendorBytesNotZero, vendorExpired, vendorMaskWrong, firmwareHeaderCut, firmwareMagicMissing, firmwareLenWrong, firstChunkHasNoRoom, codeLenWrong, firmwareBytesNotZero, firmwareExpired, firmwareMaskWrong, codeCut}
+use Rattle.header.specs.Steps.{keysImpossible, lengthImpossible, codeLenImpossible, shorterThanAnyHeader, vendorLenImpossible, vendorHeaderCut, vendorKeysImpossible, stringLeavesNoRoom, vendorBytesNotZero, vendorExpired, vendorMaskWrong, firmwareHeaderCut, firmwareMagicMissing, firmwareLenWrong, firstChunkHasNoRoom, codeLenWrong, firmwareBytesNotZero, firmwareExpired, firmwareMaskWrong}
 use Rattle.header.specs.Table.{firstFailing, vendorShape, vendorPolicy, firmwareShape, firmwarePolicy, headerRows}
 use Rattle.header.specs.Alike.{Alike, ReadByHeaders}
 use Rattle.header.specs.declared.Inputs.{Inputs}
@@ -180,8 +180,7 @@ module _ {R N : ℕ → Bool} {b c : List ℕ} (w : Alike R N b c) (read : ReadB
         (λ h19. refl))
 
     -- S21
-    pub code-cut-alike : codeCut b ≡ codeCut c
-    unfolding codeCut
+    pub code-cut-alike : codeCutAt b (vendorLen b) ≡ codeCutAt c (vendorLen c)
     code-cut-alike = ap (ltb (length b)) image-len-alike ∙ shorter-alike w (imageLen c) (read .ends (imageLen c) (omega arith))
 
   -- S1 to S20

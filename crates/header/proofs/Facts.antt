@@ -1,25 +1,26 @@
 -- What a passing test, and a passing group of rows, says of numbers and bytes.
 -- Assumes nothing.
 use Prim.Native.Nat.{ℕ, _+_, _-_, _%_, _≤_, _<_}
-use mathlib.Core.Path.{_≡_}
+use mathlib.Core.Path.{_≡_, sym}
 use mathlib.Core.List.{List}
 use mathlib.Core.Bool.{Bool, true, false, not, _&&_, _||_}
 use native.Mathlib.Omega.{arith}
 use lib.ListN.{length}
 use lib.Dec.{leb, ltb}
-use borrow.Author.Tests.{ltb-false, leb-true, eqb-true, eqb-false, not-false, lt-ltb}
+use borrow.Author.Tests.{ltb-false, le-ltb, leb-true, eqb-true, eqb-false, not-false, lt-ltb}
 use Rattle.octets.specs.Read.{between, allAre, startsWith}
 use Rattle.octets.specs.Rounding.{multipleOf}
 use Rattle.octets.proofs.Laws.{and-left, and-right, or-left, or-right}
 use Rattle.code_header.proofs.Facts.{CodeLenInside, code-len-inside, mask-signed}
-use Rattle.code_header.specs.Tests.{expired, maskWrong}
-use Rattle.header.specs.Layout.{TRZF, vendorLen, vendorExpiry, signersNeeded, keyCount, stringLen, stringEnd, pictureStart, vendorMask, firmwareMagic, firmwareLen, firmwareExpiry, codeLen, firmwareMask, imageLen, firstRoom}
-use Rattle.header.specs.Steps.{keysImpossible, lengthImpossible, codeLenImpossible, policyImpossible, shorterThanAnyHeader, vendorLenImpossible, vendorHeaderCut, vendorKeysImpossible, stringLeavesNoRoom, vendorBytesNotZero, vendorExpired, vendorMaskWrong, firmwareHeaderCut, firmwareMagicMissing, firmwareLenWrong, firstChunkHasNoRoom, codeLenWrong, firmwareBytesNotZero, firmwareExpired, firmwareMaskWrong, codeCut}
-use Rattle.header.specs.Table.{refusal, firstFailing, vendorShape, vendorPolicy, firmwareShape, firmwarePolicy, headerRows, extentRows}
+use Rattle.code_header.specs.Layout.{codeEndAt}
+use Rattle.code_header.specs.Tests.{expired, maskWrong, codeCutAt}
+use Rattle.header.specs.Layout.{TRZF, vendorLen, vendorExpiry, signersNeeded, keyCount, stringLen, stringEnd, pictureStart, vendorMask, firmwareMagic, firmwareLen, firmwareExpiry, codeLen, firmwareMask, firstRoom}
+use Rattle.header.specs.Steps.{keysImpossible, lengthImpossible, codeLenImpossible, policyImpossible, shorterThanAnyHeader, vendorLenImpossible, vendorHeaderCut, vendorKeysImpossible, stringLeavesNoRoom, vendorBytesNotZero, vendorExpired, vendorMaskWrong, firmwareHeaderCut, firmwareMagicMissing, firmwareLenWrong, firstChunkHasNoRoom, codeLenWrong, firmwareBytesNotZero, firmwareExpired, firmwareMaskWrong}
+use Rattle.header.specs.Table.{refusal, firstFailing, vendorShape, vendorPolicy, firmwareShape, firmwarePolicy, headerRows, extentRowsAt}
 use Rattle.header.specs.Theorems.{BothSigned}
 use Rattle.header.specs.declared.Inputs.{Inputs}
 use Rattle.header.specs.declared.Outcome.the-variants.{Pass, Refused}
-use Rattle.header.proofs.Rows.{pass-head, pass-tail, stage-first, stage-then}
+use Rattle.header.proofs.Rows.{passes-here, ends, pass-head, pass-tail, stage-first, stage-then}
 
 -- ---- the tests that several steps share
 
@@ -202,15 +203,19 @@ both-signed magicMissing b given h =
       firmwareVerdict = f .verdict;
     }
 
--- S21 and S22
-pub record ExtentPasses (tailWrong : Bool) (b : List ℕ) : Type 0 where
-  pub held : imageLen b ≤ length b
+-- S21 and S22, of the code behind a header that starts at an offset
+pub record ExtentPasses (tailWrong : Bool) (b : List ℕ) (at : ℕ) : Type 0 where
+  pub held : codeEndAt b at ≤ length b
   pub tail : tailWrong ≡ false
 
-pub extent-passes : (tailWrong : Bool) (b : List ℕ) → firstFailing (extentRows tailWrong b) ≡ Pass → ExtentPasses tailWrong b
-unfolding extentRows codeCut
-extent-passes tailWrong b h21 =
+pub extent-passes : (tailWrong : Bool) (b : List ℕ) (at : ℕ) → firstFailing (extentRowsAt tailWrong b at) ≡ Pass → ExtentPasses tailWrong b at
+unfolding extentRowsAt
+extent-passes tailWrong b at h21 =
     record {
-      held = ltb-false (length b) (imageLen b) (pass-head _ _ _ h21);
-      tail = pass-head _ _ _ (pass-tail (codeCut b) _ _ h21);
+      held = ltb-false (length b) (codeEndAt b at) (pass-head _ _ _ h21);
+      tail = pass-head _ _ _ (pass-tail (codeCutAt b at) _ _ h21);
     }
+
+pub passing-extent : {tailWrong : Bool} {b : List ℕ} {at : ℕ} → ExtentPasses tailWrong b at → firstFailing (extentRowsAt tailWrong b at) ≡ Pass
+unfolding extentRowsAt
+passing-extent {b = b} {at} e = sym (passes-here _ _ (le-ltb (length b) (codeEndAt b at) (e .held)) (passes-here _ _ (e .tail) ends))

@@ -1,12 +1,14 @@
 -- How the rows of a table answer: one row, one group of rows, and two tables side by side.
 -- Assumes nothing.
-use mathlib.Core.Path.{_≡_, refl, sym, ap, _∙_}
+use Prim.Native.Nat.{ℕ, zero, _≤_}
+use mathlib.Core.Path.{_≡_, refl, sym, subst, ap, _∙_}
 use mathlib.Core.List.{List, [], _∷_, _++_}
 use mathlib.Core.Bool.{Bool, true, false}
+use native.Mathlib.Omega.{arith}
 use Rattle.header.specs.declared.Refusal.{Refusal}
 use Rattle.header.specs.declared.Outcome.{Outcome}
 use Rattle.header.specs.declared.Outcome.the-variants.{Pass, Refused}
-use Rattle.header.specs.Table.{Row, row, firstFailing}
+use Rattle.header.specs.Table.{Row, row, firstFailing, extentRowsAt}
 
 -- ---- a function that goes by the rows of a table
 
@@ -108,3 +110,30 @@ same-stage rows rows′ more more′ e h =
     go : (o : Outcome) → (o ≡ Pass → firstFailing more ≡ firstFailing more′) → orElse o (firstFailing more) ≡ orElse o (firstFailing more′)
     go Pass h = h refl
     go (Refused r) h = refl
+
+-- ---- refusals have a number
+
+-- each row's refusal has one, so that 0 says that none failed
+abbrev pub Numbered : List Row → Type 0
+Numbered [] = zero ≤ zero
+Numbered (row fails r ∷ rows) = (1 ≤ r .number) × Numbered rows
+
+pub numbered-append : (rows more : List Row) → Numbered rows → Numbered more → Numbered (rows ++ more)
+numbered-append [] more h g = g
+numbered-append (row fails r ∷ rows) more h g = (h .0, numbered-append rows more (h .1) g)
+
+-- Pass is no refusal
+abbrev refusals : Outcome → ℕ
+refusals Pass = 0
+refusals (Refused r) = 1
+
+pub first-numbered : (rows : List Row) (r : Refusal) → Numbered rows → firstFailing rows ≡ Refused r → 1 ≤ r .number
+unfolding firstFailing
+first-numbered [] r h e = let z : refusals Pass ≡ refusals (Refused r) = ap refusals e in absurd (omega arith)
+first-numbered (row true s ∷ rows) r h e = let q : s ≡ r = cc in subst (λ (t : Refusal). 1 ≤ t .number) q (h .0)
+first-numbered (row false s ∷ rows) r h e = first-numbered rows r (h .1) e
+
+-- S21 and S22
+pub extent-numbered : (tailWrong : Bool) (b : List ℕ) (at : ℕ) → Numbered (extentRowsAt tailWrong b at)
+unfolding extentRowsAt
+extent-numbered tailWrong b at = (omega arith, (omega arith, omega arith))

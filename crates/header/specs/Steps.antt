@@ -7,7 +7,7 @@ use lib.ListN.{length}
 use lib.Dec.{leb, ltb, eqb}
 use Rattle.octets.specs.Read.{between, allAre, startsWith}
 use Rattle.octets.specs.Rounding.{multipleOf}
-use Rattle.code_header.specs.Tests.{expired, maskWrong, codeLenOutside, headerCutAt, magicMissingAt, hdrLenWrongAt, bytesNotZeroAt, expiredAt, maskWrongAt, codeCutAt, bytesFollowAt, tailNotAt}
+use Rattle.code_header.specs.Tests.{expired, maskWrong, codeLenOutside, headerCutAt, magicMissingAt, hdrLenWrongAt, bytesNotZeroAt, expiredAt, maskWrongAt, bytesFollowAt, tailNotAt}
 use Rattle.header.specs.Layout.{TRZV, TRZF, vendorLen, vendorExpiry, signersNeeded, keyCount, stringLen, stringEnd, pictureStart, vendorMask, codeLen, firstRoom}
 
 -- ---- tests that several steps, and the writers, share
@@ -90,9 +90,9 @@ firstChunkHasNoRoom b = eqb (firstRoom (vendorLen b)) 0
 unfoldable pub codeLenWrong : List ℕ → Bool
 codeLenWrong b = codeLenImpossible (vendorLen b) (codeLen b)
 
--- S17
+-- S17: its gap is the 415 bytes before the sigmask
 unfoldable pub firmwareBytesNotZero : List ℕ → Bool
-firmwareBytesNotZero b = bytesNotZeroAt b (vendorLen b)
+firmwareBytesNotZero b = bytesNotZeroAt b (vendorLen b) 544 959
 
 -- S18
 unfoldable pub firmwareExpired : List ℕ → ℕ → Bool
@@ -103,10 +103,6 @@ unfoldable pub firmwareMaskWrong : List ℕ → Bool
 firmwareMaskWrong b = maskWrongAt b (vendorLen b) (signersNeeded b) (keyCount b)
 
 -- ---- the extent
-
--- S21
-unfoldable pub codeCut : List ℕ → Bool
-codeCut b = codeCutAt b (vendorLen b)
 
 -- S22 of a file: more bytes than the image has
 unfoldable pub bytesFollow : List ℕ → Bool

@@ -4,11 +4,13 @@
 use Prim.Native.Nat.{ℕ}
 use mathlib.Core.List.{List, [], _∷_, _++_}
 use mathlib.Core.Bool.{Bool, true, false, not}
+use Rattle.code_header.specs.Tests.{codeCutAt}
+use Rattle.header.specs.Layout.{vendorLen}
 use Rattle.header.specs.declared.Refusal.{Refusal}
 use Rattle.header.specs.declared.Outcome.{Outcome}
 use Rattle.header.specs.declared.Outcome.the-variants.{Pass, Refused}
 use Rattle.header.specs.declared.Inputs.{Inputs}
-use Rattle.header.specs.Steps.{policyImpossible, shorterThanAnyHeader, vendorLenImpossible, vendorHeaderCut, vendorKeysImpossible, stringLeavesNoRoom, vendorBytesNotZero, vendorExpired, vendorMaskWrong, firmwareHeaderCut, firmwareMagicMissing, firmwareLenWrong, firstChunkHasNoRoom, codeLenWrong, firmwareBytesNotZero, firmwareExpired, firmwareMaskWrong, codeCut}
+use Rattle.header.specs.Steps.{policyImpossible, shorterThanAnyHeader, vendorLenImpossible, vendorHeaderCut, vendorKeysImpossible, stringLeavesNoRoom, vendorBytesNotZero, vendorExpired, vendorMaskWrong, firmwareHeaderCut, firmwareMagicMissing, firmwareLenWrong, firstChunkHasNoRoom, codeLenWrong, firmwareBytesNotZero, firmwareExpired, firmwareMaskWrong}
 
 -- a refusal's number and part. Its chunk is 0, except in S23
 abbrev pub refusal : ℕ → ℕ → Refusal
@@ -71,6 +73,10 @@ headerRows magicMissing b given =
     ∷ step (policyImpossible (given .m) (given .n)) 16 0
     ∷ (vendorShape b ++ (vendorPolicy b given ++ (firmwareShape b ++ firmwarePolicy b given)))
 
--- S21 and S22. S22 fails where tailWrong says so: a file and a slot differ there alone
-unfoldable pub extentRows : Bool → List ℕ → List Row
-extentRows tailWrong b = step (codeCut b) 2 3 ∷ step tailWrong 13 3 ∷ []
+-- S21 and S22, of the code behind a header that starts at an offset. S22 fails where tailWrong says so: a file and a slot differ there alone
+unfoldable pub extentRowsAt : Bool → List ℕ → ℕ → List Row
+extentRowsAt tailWrong b at = step (codeCutAt b at) 2 3 ∷ step tailWrong 13 3 ∷ []
+
+-- of an image
+abbrev pub extentRows : Bool → List ℕ → List Row
+extentRows tailWrong b = extentRowsAt tailWrong b (vendorLen b)

@@ -12,7 +12,6 @@ use crate::layout::vendor_mask;
 use code_header::layout::code_len_at;
 use code_header::tests::bytes_follow_at;
 use code_header::tests::bytes_not_zero_at;
-use code_header::tests::code_cut_at;
 use code_header::tests::code_len_outside;
 use code_header::tests::expired;
 use code_header::tests::expired_at;
@@ -27,7 +26,7 @@ use octets::minus;
 use octets::part;
 use octets::starts_with;
 ghost use mathlib.Core.Path.{_≡_};
-ghost use Rattle.header.specs.Steps.{keysImpossible, lengthImpossible, codeLenImpossible, vendorMagicMissing, policyImpossible, shorterThanAnyHeader, vendorLenImpossible, vendorHeaderCut, vendorKeysImpossible, stringLeavesNoRoom, vendorBytesNotZero, vendorExpired, vendorMaskWrong, firmwareHeaderCut, firmwareMagicMissing, firmwareLenWrong, firstChunkHasNoRoom, codeLenWrong, firmwareBytesNotZero, firmwareExpired, firmwareMaskWrong, codeCut, bytesFollow, tailNotErased};
+ghost use Rattle.header.specs.Steps.{keysImpossible, lengthImpossible, codeLenImpossible, vendorMagicMissing, policyImpossible, shorterThanAnyHeader, vendorLenImpossible, vendorHeaderCut, vendorKeysImpossible, stringLeavesNoRoom, vendorBytesNotZero, vendorExpired, vendorMaskWrong, firmwareHeaderCut, firmwareMagicMissing, firmwareLenWrong, firstChunkHasNoRoom, codeLenWrong, firmwareBytesNotZero, firmwareExpired, firmwareMaskWrong, bytesFollow, tailNotErased};
 
 pub fn keys_impossible(m: u32, n: u32) -> bool
     ensures { λ r. ⌜ r ≡ keysImpossible m n ⌝ }
@@ -143,7 +142,7 @@ pub fn code_len_wrong(b: &[u8]) -> bool
 pub fn firmware_bytes_not_zero(b: &[u8]) -> bool
     ensures { λ r. ⌜ r ≡ firmwareBytesNotZero (now (b .entry)) ⌝ }
 {
-    bytes_not_zero_at(b, vendor_len(b))
+    bytes_not_zero_at(b, vendor_len(b), 544, 959)
 }
 
 pub fn firmware_expired(b: &[u8], time: u32) -> bool
@@ -161,12 +160,6 @@ pub fn firmware_mask_wrong(b: &[u8]) -> bool
         signers_needed(b) as u32,
         key_count(b) as u32,
     )
-}
-
-pub fn code_cut(b: &[u8]) -> bool
-    ensures { λ r. ⌜ r ≡ codeCut (now (b .entry)) ⌝ }
-{
-    code_cut_at(b, vendor_len(b))
 }
 
 pub fn bytes_follow(b: &[u8]) -> bool

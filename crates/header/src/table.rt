@@ -2,7 +2,7 @@
 use crate::Inputs;
 use crate::Outcome;
 use crate::Refusal;
-use crate::steps::code_cut;
+use crate::layout::vendor_len;
 use crate::steps::code_len_wrong;
 use crate::steps::firmware_bytes_not_zero;
 use crate::steps::firmware_expired;
@@ -20,8 +20,9 @@ use crate::steps::vendor_header_cut;
 use crate::steps::vendor_keys_impossible;
 use crate::steps::vendor_len_impossible;
 use crate::steps::vendor_mask_wrong;
+use code_header::tests::code_cut_at;
 ghost use mathlib.Core.Path.{_≡_};
-ghost use Rattle.header.specs.Table.{refusal, firstFailing, vendorShape, vendorPolicy, firmwareShape, firmwarePolicy, headerRows, extentRows};
+ghost use Rattle.header.specs.Table.{refusal, firstFailing, vendorShape, vendorPolicy, firmwareShape, firmwarePolicy, headerRows, extentRowsAt, extentRows};
 
 // A refusal that names no chunk.
 pub fn refuse(number: u32, part: u32) -> Outcome
@@ -141,15 +142,23 @@ pub fn header_rows(magic_missing: bool, b: &[u8], given: Inputs) -> Outcome
     firmware_policy(b, given)
 }
 
-// S21 and S22. Whether S22 fails is told by the caller: a file and a slot differ there alone.
-pub fn extent_rows(tail_wrong: bool, b: &[u8]) -> Outcome
-    ensures { λ r. ⌜ r ≡ firstFailing (extentRows «tail_wrong» (now (b .entry))) ⌝ }
+// S21 and S22, of the code behind a header that starts at an offset. Whether S22 fails is told by the
+// caller: a file and a slot differ there alone.
+pub fn extent_rows_at(tail_wrong: bool, b: &[u8], at: u32) -> Outcome
+    ensures { λ r. ⌜ r ≡ firstFailing (extentRowsAt «tail_wrong» (now (b .entry)) at) ⌝ }
 {
-    if code_cut(b) {
+    if code_cut_at(b, at) {
         return refuse(2, 3);
     }
     if tail_wrong {
         return refuse(13, 3);
     }
     Outcome::Pass
+}
+
+// Of an image.
+pub fn extent_rows(tail_wrong: bool, b: &[u8]) -> Outcome
+    ensures { λ r. ⌜ r ≡ firstFailing (extentRows «tail_wrong» (now (b .entry))) ⌝ }
+{
+    extent_rows_at(tail_wrong, b, vendor_len(b))
 }

@@ -12,7 +12,7 @@ use borrow.Author.Tests.{le-leb}
 use Rattle.octets.specs.Read.{between, startsWith}
 use Rattle.header.specs.Layout.{TRZV, vendorLen, codeStart, imageLen}
 use Rattle.header.specs.Steps.{bytesFollow}
-use Rattle.header.specs.Table.{firstFailing, headerRows, extentRows}
+use Rattle.header.specs.Table.{firstFailing, headerRows, extentRows, extentRowsAt}
 use Rattle.header.specs.Alike.{Alike, ReadByHeaders}
 use Rattle.header.specs.declared.Inputs.{Inputs}
 use Rattle.header.specs.declared.Outcome.{Outcome}
@@ -62,7 +62,7 @@ module _ {R N : ℕ → Bool} {b c : List ℕ} (w : Alike R N b c) (read : ReadB
 
   -- S21 and S22, where S22 is answered the same
   pub extent-rows-alike : (x y : Bool) → x ≡ y → firstFailing (extentRows x b) ≡ firstFailing (extentRows y c)
-  unfolding extentRows
+  unfolding extentRowsAt
   extent-rows-alike x y e = same-row _ _ _ (code-cut-alike w read least) (λ h21. same-row _ _ _ e (λ h22. refl))
 
   -- where R holds the code too

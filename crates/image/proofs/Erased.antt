@@ -88,7 +88,7 @@ module _ (file : List ℕ) (given : Inputs) (p : RowsPass (vendorMagicMissing fi
       record {
         headers = rw magic-stays (headers-alike w read (vendorMagicMissing file) given ∙ p .headers);
         extent =
-            extent-rows-alike w read least _ _ (tail-erased ∙ sym (extent-passes (bytesFollow file) file (p .extent) .tail)) ∙ p .extent;
+            extent-rows-alike w read least _ _ (tail-erased ∙ sym (extent-passes (bytesFollow file) file (vendorLen file) (p .extent) .tail)) ∙ p .extent;
         hashes = hash-rows-alike w read least (λ i g h. let l = whole in lt-ltb i (length file) (omega arith)) ∙ p .hashes;
       }
 

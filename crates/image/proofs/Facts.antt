@@ -9,18 +9,20 @@ use lib.ListN.{length, drop, length-take, length-drop}
 use borrow.Author.Tests.{ltb-false, le-ltb}
 use Rattle.octets.specs.Read.{between}
 use Rattle.octets.proofs.Laws.{between-end}
+use Rattle.blake2s.specs.Rfc7693.{blake2sOf}
 use Rattle.header.specs.Layout.{vendorLen, codeLen, codeStart, imageLen, firstRoom}
-use Rattle.header.specs.Steps.{vendorMagicMissing, codeCut, bytesFollow}
+use Rattle.header.specs.Steps.{vendorMagicMissing, bytesFollow}
 use Rattle.header.specs.Table.{firstFailing, headerRows, extentRows}
 use Rattle.header.specs.declared.Refusal.{Refusal}
 use Rattle.header.specs.declared.Inputs.{Inputs}
 use Rattle.header.specs.declared.Outcome.{Outcome}
 use Rattle.header.specs.declared.Outcome.the-variants.{Pass, Refused}
-use Rattle.header.proofs.Rows.{passes-here, ends, stage-first, stage-then, stage-passes}
-use Rattle.header.proofs.Facts.{VendorShaped, FirmwareShaped, headers-pass, vendor-shaped, firmware-shaped, extent-passes}
+use Rattle.header.proofs.Rows.{stage-first, stage-then, stage-passes}
+use Rattle.header.proofs.Facts.{VendorShaped, FirmwareShaped, headers-pass, vendor-shaped, firmware-shaped, extent-passes, passing-extent}
 use Rattle.image.specs.Chunks.{hashesOf, hashTable, codeOf, hashRows}
 use Rattle.image.specs.Answer.{imageOf, answerOf}
 use Rattle.image.specs.Check.{checkRows, checkFile}
+use Rattle.image.specs.declared.Version.{Version}
 use Rattle.image.specs.declared.Image.{Image}
 use Rattle.image.specs.declared.Answer.{Answer}
 use Rattle.image.specs.declared.Answer.the-variants.{Accepted, Rejected}
@@ -49,6 +51,17 @@ pub told : (o : Outcome) (i j : Image) → answerOf o i ≡ Accepted j → i ≡
 told Pass i j h = cc
 told (Refused r) i j h = cc
 
+-- a refusal is that of the rows
+pub rejected-is : (o : Outcome) (i : Image) (r : Refusal) → answerOf o i ≡ Rejected r → o ≡ Refused r
+rejected-is Pass i r e = cc
+rejected-is (Refused s) i r e = cc
+
+-- an image is what its fields are
+pub image-is : (i : Image) (v c : ℕ) (x y : Version) → i .v ≡ v → i .codelen ≡ c → i .version ≡ x → i .fix ≡ y → record { v = v; codelen = c; version = x; fix = y } ≡ i
+image-is i v c x y e f g h =
+    ap₂ (λ (v c : ℕ). record { v = v; codelen = c; version = x; fix = y }) (sym e) (sym f)
+    ∙ ap₂ (λ (x y : Version). record { v = i .v; codelen = i .codelen; version = x; fix = y }) (sym g) (sym h)
+
 -- ---- all rows pass
 
 pub record RowsPass (magicMissing tailWrong : Bool) (b : List ℕ) (given : Inputs) : Type 0 where
@@ -71,7 +84,7 @@ pub record Sound (b : List ℕ) : Type 0 where
   pub vendor : VendorShaped b
   pub firmware : FirmwareShaped b
   pub held : imageLen b ≤ length b
-  pub hashes : hashTable b ≡ hashesOf 16 (firstRoom (vendorLen b)) (codeOf b)
+  pub hashes : hashTable b ≡ hashesOf blake2sOf 16 (firstRoom (vendorLen b)) (codeOf b)
 
 pub sound : {magicMissing tailWrong : Bool} {b : List ℕ} {given : Inputs} → RowsPass magicMissing tailWrong b given → Sound b
 sound {magicMissing} {tailWrong} {b} {given} p =
@@ -79,7 +92,7 @@ sound {magicMissing} {tailWrong} {b} {given} p =
     record {
       vendor = vendor-shaped b (h .vendor);
       firmware = firmware-shaped b (h .firmware);
-      held = extent-passes tailWrong b (p .extent) .held;
+      held = extent-passes tailWrong b (vendorLen b) (p .extent) .held;
       hashes = hashes-right b (p .hashes);
     }
 
@@ -111,14 +124,13 @@ file-accepted b given p = rows-accepted p
 
 -- a file that is as long as its image passes S21 and S22, and an accepted file is so long
 pub file-extent-passes : (b : List ℕ) → length b ≡ imageLen b → firstFailing (extentRows (bytesFollow b) b) ≡ Pass
-unfolding extentRows codeCut bytesFollow
-file-extent-passes b e =
-    sym (passes-here _ _ (le-ltb (length b) (imageLen b) (omega arith)) (passes-here _ _ (le-ltb (imageLen b) (length b) (omega arith)) ends))
+unfolding bytesFollow
+file-extent-passes b e = passing-extent (record { held = omega arith; tail = le-ltb (imageLen b) (length b) (omega arith) })
 
 pub file-length : (magicMissing : Bool) (b : List ℕ) (given : Inputs) → RowsPass magicMissing (bytesFollow b) b given → length b ≡ imageLen b
 unfolding bytesFollow
 file-length magicMissing b given p =
-    let e = extent-passes (bytesFollow b) b (p .extent) in
+    let e = extent-passes (bytesFollow b) b (vendorLen b) (p .extent) in
     let l = e .held in
     let m : length b ≤ imageLen b = ltb-false (imageLen b) (length b) (e .tail) in
     omega arith
@@ -126,7 +138,7 @@ file-length magicMissing b given p =
 -- ---- a file that is accepted, by its headers, its length and its hashes
 
 pub sound-file-accepted : (b : List ℕ) (given : Inputs) → firstFailing (headerRows (vendorMagicMissing b) b given) ≡ Pass → length b ≡ imageLen b
-    → hashTable b ≡ hashesOf 16 (firstRoom (vendorLen b)) (codeOf b) → checkFile b given ≡ Accepted (imageOf b)
+    → hashTable b ≡ hashesOf blake2sOf 16 (firstRoom (vendorLen b)) (codeOf b) → checkFile b given ≡ Accepted (imageOf b)
 sound-file-accepted b given h l e =
     file-accepted b given (record { headers = h; extent = file-extent-passes b l; hashes = hashes-pass b e })
 

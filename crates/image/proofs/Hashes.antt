@@ -18,7 +18,7 @@ use Rattle.header.specs.Table.{Row, row, firstFailing}
 use Rattle.header.specs.declared.Refusal.{Refusal}
 use Rattle.header.specs.declared.Outcome.{Outcome}
 use Rattle.header.specs.declared.Outcome.the-variants.{Pass, Refused}
-use Rattle.header.proofs.Rows.{pass-head, pass-tail}
+use Rattle.header.proofs.Rows.{pass-head, pass-tail, Numbered}
 use Rattle.image.specs.Chunks.{roomOf, chunkStart, chunk, hashOf, hashesOf, hashesAt, hashTable, codeOf, wrongHash, chunkRow, chunkRows, hashRows}
 
 -- ---- where a chunk starts
@@ -63,21 +63,21 @@ chunk-empty first k code h = between-past (chunkStart first k) (chunkStart first
 
 -- ---- hashes
 
-pub hash-empty : {d : List ℕ} (bytes : List ℕ) → length bytes ≡ 0 → d ≡ replicate 32 0 → d ≡ hashOf bytes
+pub hash-empty : {d : List ℕ} (digest : List ℕ → List ℕ) (bytes : List ℕ) → length bytes ≡ 0 → d ≡ replicate 32 0 → d ≡ hashOf digest bytes
 unfolding hashOf
-hash-empty [] e h = h
-hash-empty (x ∷ bytes) e h = absurd (omega arith)
+hash-empty digest [] e h = h
+hash-empty digest (x ∷ bytes) e h = absurd (omega arith)
 
-pub hash-used : {d : List ℕ} (bytes : List ℕ) → (length bytes ≡ 0 → ⊥) → d ≡ blake2sOf bytes → d ≡ hashOf bytes
+pub hash-used : {d : List ℕ} (digest : List ℕ → List ℕ) (bytes : List ℕ) → (length bytes ≡ 0 → ⊥) → d ≡ digest bytes → d ≡ hashOf digest bytes
 unfolding hashOf
-hash-used [] e h = absurd (e refl)
-hash-used (x ∷ bytes) e h = h
+hash-used digest [] e h = absurd (e refl)
+hash-used digest (x ∷ bytes) e h = h
 
 pub digest-length : (bytes : List ℕ) → length (blake2sOf bytes) ≡ 32
 unfolding blake2sOf serialised bytesOf
 digest-length bytes = refl
 
-pub hash-length : (bytes : List ℕ) → length (hashOf bytes) ≡ 32
+pub hash-length : (bytes : List ℕ) → length (hashOf blake2sOf bytes) ≡ 32
 unfolding hashOf
 hash-length [] = refl
 hash-length (x ∷ bytes) = digest-length (x ∷ bytes)
@@ -88,10 +88,10 @@ pub hash-at-more : {x : List ℕ} (t : List (List ℕ)) (b : List ℕ) (at k : �
 unfolding hashesAt
 hash-at-more t b at k h e f = rw (add-one, take-suc-set t k _ h, e, f)
 
-pub hash-of-more : {x : List ℕ} (t : List (List ℕ)) (first : ℕ) (code : List ℕ) (k : ℕ) → k < length t → take k t ≡ hashesOf k first code → x ≡ hashOf (chunk first k code)
-    → take (k + 1) (set t k x) ≡ hashesOf (k + 1) first code
+pub hash-of-more : (digest : List ℕ → List ℕ) {x : List ℕ} (t : List (List ℕ)) (first : ℕ) (code : List ℕ) (k : ℕ) → k < length t → take k t ≡ hashesOf digest k first code → x ≡ hashOf digest (chunk first k code)
+    → take (k + 1) (set t k x) ≡ hashesOf digest (k + 1) first code
 unfolding hashesOf
-hash-of-more t first code k h e f = rw (add-one, take-suc-set t k _ h, e, f)
+hash-of-more digest t first code k h e f = rw (add-one, take-suc-set t k _ h, e, f)
 
 -- the tables have n hashes
 pub hashes-at-length : (n : ℕ) (b : List ℕ) (at : ℕ) → length (hashesAt n b at) ≡ n
@@ -99,10 +99,10 @@ unfolding hashesAt
 hashes-at-length zero b at = refl
 hashes-at-length (suc n) b at = rw (length-append, hashes-at-length n b at) (omega arith)
 
-pub hashes-of-length : (n first : ℕ) (code : List ℕ) → length (hashesOf n first code) ≡ n
+pub hashes-of-length : (digest : List ℕ → List ℕ) (n first : ℕ) (code : List ℕ) → length (hashesOf digest n first code) ≡ n
 unfolding hashesOf
-hashes-of-length zero first code = refl
-hashes-of-length (suc n) first code = rw (length-append, hashes-of-length n first code) (omega arith)
+hashes-of-length digest zero first code = refl
+hashes-of-length digest (suc n) first code = rw (length-append, hashes-of-length digest n first code) (omega arith)
 
 -- hash k of each
 pub hash-at : (n : ℕ) (b : List ℕ) (at k : ℕ) → k < n → getD (hashesAt n b at) k [] ≡ bytesAt 32 b (at + 32 * k)
@@ -117,16 +117,16 @@ hash-at (suc n) b at k h =
     rw e (getD-at (hashesAt n b at) (bytesAt 32 b (at + 32 * n)) [] [] n l))
     (split k n)
 
-pub hash-of : (n first : ℕ) (code : List ℕ) (k : ℕ) → k < n → getD (hashesOf n first code) k [] ≡ hashOf (chunk first k code)
+pub hash-of : (digest : List ℕ → List ℕ) (n first : ℕ) (code : List ℕ) (k : ℕ) → k < n → getD (hashesOf digest n first code) k [] ≡ hashOf digest (chunk first k code)
 unfolding hashesOf
-hash-of zero first code k h = absurd (omega arith)
-hash-of (suc n) first code k h =
-    let l = hashes-of-length n first code in
+hash-of digest zero first code k h = absurd (omega arith)
+hash-of digest (suc n) first code k h =
+    let l = hashes-of-length digest n first code in
     ⊎-elim
-    (λ (g : k < n). List·getD-append (hashesOf n first code) _ [] k (omega arith) ∙ hash-of n first code k g)
+    (λ (g : k < n). List·getD-append (hashesOf digest n first code) _ [] k (omega arith) ∙ hash-of digest n first code k g)
     (λ (g : n ≤ k).
     let e : k ≡ n = omega arith in
-    rw e (getD-at (hashesOf n first code) (hashOf (chunk first n code)) [] [] n l))
+    rw e (getD-at (hashesOf digest n first code) (hashOf digest (chunk first n code)) [] [] n l))
     (split k n)
 
 -- the header's table has sixteen, of 32 bytes each
@@ -145,14 +145,14 @@ wrong-used [] k e = absurd (e refl)
 wrong-used (x ∷ bytes) k e = refl
 
 -- d is the hash that the function made, x its test
-pub row-failed : {d : List ℕ} {x : Bool} {r : Refusal} (k : ℕ) (bytes hash : List ℕ) → d ≡ hashOf bytes → x ≡ same d hash → x ≡ false → r ≡ wrongHash bytes k
-    → Refused r ≡ firstFailing (chunkRow k bytes hash ∷ [])
+pub row-failed : (digest : List ℕ → List ℕ) {d : List ℕ} {x : Bool} {r : Refusal} (k : ℕ) (bytes hash : List ℕ) → d ≡ hashOf digest bytes → x ≡ same d hash → x ≡ false → r ≡ wrongHash bytes k
+    → Refused r ≡ firstFailing (chunkRow digest k bytes hash ∷ [])
 unfolding chunkRow firstFailing
-row-failed k bytes hash e f g h = rw (← e, ← f, g) (ap Refused h)
+row-failed digest k bytes hash e f g h = rw (← e, ← f, g) (ap Refused h)
 
-pub row-passed : {d : List ℕ} {x : Bool} (k : ℕ) (bytes hash : List ℕ) → d ≡ hashOf bytes → x ≡ same d hash → x ≡ true → Pass ≡ firstFailing (chunkRow k bytes hash ∷ [])
+pub row-passed : (digest : List ℕ → List ℕ) {d : List ℕ} {x : Bool} (k : ℕ) (bytes hash : List ℕ) → d ≡ hashOf digest bytes → x ≡ same d hash → x ≡ true → Pass ≡ firstFailing (chunkRow digest k bytes hash ∷ [])
 unfolding chunkRow firstFailing
-row-passed k bytes hash e f g = rw (← e, ← f, g)
+row-passed digest k bytes hash e f g = rw (← e, ← f, g)
 
 -- a row by itself, and before others
 row-passes : (r : Row) (rows : List Row) → firstFailing (r ∷ []) ≡ Pass → firstFailing (r ∷ rows) ≡ firstFailing rows
@@ -166,51 +166,51 @@ row-fails (row true r) rows h = h
 row-fails (row false r) rows h = cc
 
 -- before chunk k + 1: from is where it starts in the code, and the answer is that of the chunks from it on
-pub record Reached (first : ℕ) (code : List ℕ) (table : List (List ℕ)) (from k : ℕ) : Type 0 where
+pub record Reached (digest : List ℕ → List ℕ) (first : ℕ) (code : List ℕ) (table : List (List ℕ)) (from k : ℕ) : Type 0 where
   pub count : k ≤ 16
   pub start : from ≡ chunkStart first k
-  pub answer : firstFailing (chunkRows first code table 0 16) ≡ firstFailing (chunkRows first code table k (16 - k))
+  pub answer : firstFailing (chunkRows digest first code table 0 16) ≡ firstFailing (chunkRows digest first code table k (16 - k))
 
-pub reached-first : (first : ℕ) (code : List ℕ) (table : List (List ℕ)) → Reached first code table 0 0
+pub reached-first : (digest : List ℕ → List ℕ) (first : ℕ) (code : List ℕ) (table : List (List ℕ)) → Reached digest first code table 0 0
 unfolding chunkStart
-reached-first first code table = record { count = omega arith; start = refl; answer = refl }
+reached-first digest first code table = record { count = omega arith; start = refl; answer = refl }
 
-module _ {first : ℕ} {code : List ℕ} {table : List (List ℕ)} {from k : ℕ} (w : Reached first code table from k) where
+module _ {digest : List ℕ → List ℕ} {first : ℕ} {code : List ℕ} {table : List (List ℕ)} {from k : ℕ} (w : Reached digest first code table from k) where
   -- where the next chunk starts is no large number
   pub next-small : {room : ℕ} → room ≡ roomOf first k → from + room ≤ 2 * first + 131072 * 17
   next-small e = let f = w .start in let c = w .count in let r = room-most first k in let s = start-most first k in omega arith
 
   -- all sixteen are right
-  pub reached-end : 16 ≤ k → Pass ≡ firstFailing (chunkRows first code table 0 16)
+  pub reached-end : 16 ≤ k → Pass ≡ firstFailing (chunkRows digest first code table 0 16)
   unfolding chunkRows firstFailing
   reached-end h =
       let e : 16 - k ≡ 0 = omega arith in
-      sym (w .answer ∙ ap (λ (n : ℕ). firstFailing (chunkRows first code table k n)) e)
+      sym (w .answer ∙ ap (λ (n : ℕ). firstFailing (chunkRows digest first code table k n)) e)
 
   -- room is the chunk's room, p its bytes, o what its row answers
   module _ (below : k < 16) {o : Outcome} {p : List ℕ} {room : ℕ} (er : room ≡ roomOf first k) (ep : p ≡ between from (from + room) code)
-      (eo : o ≡ firstFailing (chunkRow (k + 1) p (getD table k []) ∷ [])) where
+      (eo : o ≡ firstFailing (chunkRow digest (k + 1) p (getD table k []) ∷ [])) where
     next-start : from + room ≡ chunkStart first (k + 1)
     next-start = ap₂ (λ (x y : ℕ). x + y) (w .start) er ∙ start-more first k
 
     abbrev rowHere : Row
-    rowHere = chunkRow (suc k) (chunk first k code) (getD table k [])
+    rowHere = chunkRow digest (suc k) (chunk first k code) (getD table k [])
 
     row-is : o ≡ firstFailing (rowHere ∷ [])
     row-is =
         eo
         ∙ rw (add-one k)
         (ap
-        (λ (l : List ℕ). firstFailing (chunkRow (suc k) l (getD table k []) ∷ []))
+        (λ (l : List ℕ). firstFailing (chunkRow digest (suc k) l (getD table k []) ∷ []))
         (ep ∙ ap₂ (λ (x y : ℕ). between x y code) (w .start) next-start ∙ chunk-is first k code))
 
-    one-left : firstFailing (chunkRows first code table 0 16) ≡ firstFailing (rowHere ∷ chunkRows first code table (suc k) (16 - (k + 1)))
+    one-left : firstFailing (chunkRows digest first code table 0 16) ≡ firstFailing (rowHere ∷ chunkRows digest first code table (suc k) (16 - (k + 1)))
     unfolding chunkRows
     one-left =
         let e : 16 - k ≡ suc (16 - (k + 1)) = omega arith in
-        w .answer ∙ ap (λ (n : ℕ). firstFailing (chunkRows first code table k n)) e
+        w .answer ∙ ap (λ (n : ℕ). firstFailing (chunkRows digest first code table k n)) e
 
-    pub reached-next : o ≡ Pass → Reached first code table (from + room) (k + 1)
+    pub reached-next : o ≡ Pass → Reached digest first code table (from + room) (k + 1)
     reached-next h =
         record {
           count = omega arith;
@@ -218,23 +218,23 @@ module _ {first : ℕ} {code : List ℕ} {table : List (List ℕ)} {from k : ℕ
           answer = one-left ∙ rw (add-one k) (row-passes rowHere _ (sym row-is ∙ h));
         }
 
-    pub reached-wrong : {r : Refusal} → o ≡ Refused r → Refused r ≡ firstFailing (chunkRows first code table 0 16)
+    pub reached-wrong : {r : Refusal} → o ≡ Refused r → Refused r ≡ firstFailing (chunkRows digest first code table 0 16)
     reached-wrong h = sym (one-left ∙ row-fails rowHere _ (sym row-is ∙ h))
 
 -- ---- S23 passes exactly where each hash is right
 
-module _ (first : ℕ) (code : List ℕ) (table : List (List ℕ)) where
+module _ (digest : List ℕ → List ℕ) (first : ℕ) (code : List ℕ) (table : List (List ℕ)) where
   -- the hash of chunk k + 1 is right
   abbrev pub RightHash : ℕ → Type 0
-  RightHash k = hashOf (chunk first k code) ≡ getD table k []
+  RightHash k = hashOf digest (chunk first k code) ≡ getD table k []
 
-  pub chunk-rows-pass : (k n : ℕ) → ((i : ℕ) → k ≤ i → i < k + n → RightHash i) → firstFailing (chunkRows first code table k n) ≡ Pass
+  pub chunk-rows-pass : (k n : ℕ) → ((i : ℕ) → k ≤ i → i < k + n → RightHash i) → firstFailing (chunkRows digest first code table k n) ≡ Pass
   unfolding chunkRows chunkRow firstFailing
   chunk-rows-pass k zero h = refl
   chunk-rows-pass k (suc n) h =
       rw (h k (omega arith) (omega arith), same-self) (chunk-rows-pass (suc k) n (λ i g l. h i (omega arith) (omega arith)))
 
-  pub chunk-rows-right : (k n : ℕ) → firstFailing (chunkRows first code table k n) ≡ Pass → (i : ℕ) → k ≤ i → i < k + n → RightHash i
+  pub chunk-rows-right : (k n : ℕ) → firstFailing (chunkRows digest first code table k n) ≡ Pass → (i : ℕ) → k ≤ i → i < k + n → RightHash i
   unfolding chunkRows chunkRow
   chunk-rows-right k zero h i g l = absurd (omega arith)
   chunk-rows-right k (suc n) h i g l =
@@ -244,18 +244,29 @@ module _ (first : ℕ) (code : List ℕ) (table : List (List ℕ)) where
       (split k i)
 
 -- of an image
-pub hashes-pass : (b : List ℕ) → hashTable b ≡ hashesOf 16 (firstRoom (vendorLen b)) (codeOf b) → firstFailing (hashRows b) ≡ Pass
+pub hashes-pass : (b : List ℕ) → hashTable b ≡ hashesOf blake2sOf 16 (firstRoom (vendorLen b)) (codeOf b) → firstFailing (hashRows b) ≡ Pass
 unfolding hashRows
-hashes-pass b e = chunk-rows-pass _ _ _ 0 16 (λ i g l. sym (rw e (hash-of 16 (firstRoom (vendorLen b)) (codeOf b) i (omega arith))))
+hashes-pass b e = chunk-rows-pass _ _ _ _ 0 16 (λ i g l. sym (rw e (hash-of blake2sOf 16 (firstRoom (vendorLen b)) (codeOf b) i (omega arith))))
 
-pub hashes-right : (b : List ℕ) → firstFailing (hashRows b) ≡ Pass → hashTable b ≡ hashesOf 16 (firstRoom (vendorLen b)) (codeOf b)
+pub hashes-right : (b : List ℕ) → firstFailing (hashRows b) ≡ Pass → hashTable b ≡ hashesOf blake2sOf 16 (firstRoom (vendorLen b)) (codeOf b)
 unfolding hashRows
 hashes-right b h =
     let l = table-length b in
-    let m = hashes-of-length 16 (firstRoom (vendorLen b)) (codeOf b) in
+    let m = hashes-of-length blake2sOf 16 (firstRoom (vendorLen b)) (codeOf b) in
     ext-getD
     []
     (hashTable b)
-    (hashesOf 16 (firstRoom (vendorLen b)) (codeOf b))
+    (hashesOf blake2sOf 16 (firstRoom (vendorLen b)) (codeOf b))
     (l ∙ sym m)
-    (λ i g. sym (chunk-rows-right _ _ _ 0 16 h i (omega arith) (omega arith)) ∙ sym (hash-of 16 (firstRoom (vendorLen b)) (codeOf b) i (omega arith)))
+    (λ i g. sym (chunk-rows-right _ _ _ _ 0 16 h i (omega arith) (omega arith)) ∙ sym (hash-of blake2sOf 16 (firstRoom (vendorLen b)) (codeOf b) i (omega arith)))
+
+-- ---- refusals of S23 have a number
+
+hash-numbered : (bytes : List ℕ) (k : ℕ) → 1 ≤ wrongHash bytes k .number
+hash-numbered [] k = omega arith
+hash-numbered (x ∷ bytes) k = omega arith
+
+pub chunks-numbered : (digest : List ℕ → List ℕ) (first : ℕ) (code : List ℕ) (table : List (List ℕ)) (k n : ℕ) → Numbered (chunkRows digest first code table k n)
+unfolding chunkRows chunkRow
+chunks-numbered digest first code table k zero = omega arith
+chunks-numbered digest first code table k (suc n) = (hash-numbered (chunk first k code) (suc k), chunks-numbered digest first code table (suc k) n)

@@ -7,7 +7,7 @@ use mathlib.Core.List.{List}
 use lib.ListN.{drop}
 use borrow.Author.Tests.{not-false}
 use Rattle.octets.specs.Read.{allAre}
-use Rattle.header.specs.Layout.{imageLen}
+use Rattle.header.specs.Layout.{vendorLen, imageLen}
 use Rattle.header.specs.Steps.{tailNotErased}
 use Rattle.header.proofs.Facts.{both-signed, extent-passes}
 use Rattle.image.specs.Theorems.{AcceptedIsSigned}
@@ -23,5 +23,5 @@ accepted-is-signed =
     record {
       file = λ b given i h. both-signed _ b given (file-rows-pass b given i h .headers);
       slot = λ b given i h. both-signed _ b given (slot-rows-pass b given i h .headers);
-      tail = λ b given i h. erased-behind b (extent-passes _ b (slot-rows-pass b given i h .extent) .tail);
+      tail = λ b given i h. erased-behind b (extent-passes _ b (vendorLen b) (slot-rows-pass b given i h .extent) .tail);
     }

@@ -1,4 +1,5 @@
--- The code in chunks, and S23 (specification, 4 and 6): hash k is the BLAKE2s digest of chunk k, or all zero if chunk k holds nothing.
+-- The code in chunks, and S23 (specification, 4 and 6): hash k is the digest of chunk k, or all zero if chunk k holds nothing.
+-- All of it is over the room that chunk 1 has and over the digest, in which one family of images differs from another.
 -- Chunks count from 1 in an answer; here k counts from 0, so that chunk k + 1 stands at k.
 -- Assumes nothing.
 use Prim.Native.Nat.{ℕ, zero, suc, _+_, _*_}
@@ -31,14 +32,14 @@ chunk first k code = between (chunkStart first k) (chunkStart first (suc k)) cod
 -- ---- hashes
 
 -- the hash of a chunk that holds these bytes
-unfoldable pub hashOf : List ℕ → List ℕ
-hashOf [] = replicate 32 0
-hashOf (x ∷ xs) = blake2sOf (x ∷ xs)
+unfoldable pub hashOf : (List ℕ → List ℕ) → List ℕ → List ℕ
+hashOf digest [] = replicate 32 0
+hashOf digest (x ∷ xs) = digest (x ∷ xs)
 
 -- the hashes of the first n chunks
-unfoldable pub hashesOf : ℕ → ℕ → List ℕ → List (List ℕ)
-hashesOf zero first code = []
-hashesOf (suc n) first code = hashesOf n first code ++ (hashOf (chunk first n code) ∷ [])
+unfoldable pub hashesOf : (List ℕ → List ℕ) → ℕ → ℕ → List ℕ → List (List ℕ)
+hashesOf digest zero first code = []
+hashesOf digest (suc n) first code = hashesOf digest n first code ++ (hashOf digest (chunk first n code) ∷ [])
 
 -- the first n hashes that stand in a table at an offset
 unfoldable pub hashesAt : ℕ → List ℕ → ℕ → List (List ℕ)
@@ -69,14 +70,14 @@ wrongHash [] k = record { number = 15; part = 3; chunk = k }
 wrongHash (x ∷ xs) k = record { number = 14; part = 3; chunk = k }
 
 -- chunk number k with these bytes and this hash
-unfoldable pub chunkRow : ℕ → List ℕ → List ℕ → Row
-chunkRow k bytes hash = row (not (same (hashOf bytes) hash)) (wrongHash bytes k)
+unfoldable pub chunkRow : (List ℕ → List ℕ) → ℕ → List ℕ → List ℕ → Row
+chunkRow digest k bytes hash = row (not (same (hashOf digest bytes) hash)) (wrongHash bytes k)
 
--- a row for each of the n chunks from k on, by the first chunk's room, the code and the table
-unfoldable pub chunkRows : ℕ → List ℕ → List (List ℕ) → ℕ → ℕ → List Row
-chunkRows first code table k zero = []
-chunkRows first code table k (suc n) = chunkRow (suc k) (chunk first k code) (getD table k []) ∷ chunkRows first code table (suc k) n
+-- a row for each of the n chunks from k on, by the digest, the first chunk's room, the code and the table
+unfoldable pub chunkRows : (List ℕ → List ℕ) → ℕ → List ℕ → List (List ℕ) → ℕ → ℕ → List Row
+chunkRows digest first code table k zero = []
+chunkRows digest first code table k (suc n) = chunkRow digest (suc k) (chunk first k code) (getD table k []) ∷ chunkRows digest first code table (suc k) n
 
--- S23: the lowest chunk whose hash is wrong
+-- S23 of an image, whose hashes are BLAKE2s digests: the lowest chunk whose hash is wrong
 unfoldable pub hashRows : List ℕ → List Row
-hashRows b = chunkRows (firstRoom (vendorLen b)) (codeOf b) (hashTable b) 0 16
+hashRows b = chunkRows blake2sOf (firstRoom (vendorLen b)) (codeOf b) (hashTable b) 0 16

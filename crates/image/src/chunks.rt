@@ -14,6 +14,7 @@ use octets::same_digest;
 use octets::span_of;
 ghost use mathlib.Core.Path.{_≡_};
 ghost use mathlib.Core.List.{[], _∷_};
+ghost use Rattle.blake2s.specs.Rfc7693.{blake2sOf};
 ghost use Rattle.header.specs.Table.{firstFailing};
 ghost use Rattle.image.specs.Chunks.{roomOf, hashOf, hashTableAt, codeAt, wrongHash, chunkRow, chunkRows, hashRows};
 
@@ -26,7 +27,7 @@ pub fn room_of(first: usize, k: usize) -> usize
 
 // The hash of a chunk that holds these bytes.
 pub fn hash_of(bytes: &[u8]) -> [u8; 32]
-    ensures { λ r. ⌜ r ≡ hashOf (now (bytes .entry)) ⌝ }
+    ensures { λ r. ⌜ r ≡ hashOf blake2sOf (now (bytes .entry)) ⌝ }
 {
     if bytes.len() == 0 {
         return [0; 32];
@@ -62,7 +63,7 @@ fn wrong_hash(bytes: &[u8], k: u32) -> Refusal
 
 // Chunk number k against its hash.
 fn chunk_row(k: u32, bytes: &[u8], hash: [u8; 32]) -> Outcome
-    ensures { λ r. ⌜ r ≡ firstFailing (chunkRow k (now (bytes .entry)) hash ∷ []) ⌝ }
+    ensures { λ r. ⌜ r ≡ firstFailing (chunkRow blake2sOf k (now (bytes .entry)) hash ∷ []) ⌝ }
 {
     let right = hash_of(bytes);
     if same_digest(right, hash) {
@@ -73,7 +74,7 @@ fn chunk_row(k: u32, bytes: &[u8], hash: [u8; 32]) -> Outcome
 
 // S23, of the code behind a header that starts at an offset, by the room that the first chunk has.
 pub fn chunk_rows_at(b: &[u8], at: u32, first: u32) -> Outcome
-    ensures { λ r. ⌜ r ≡ firstFailing (chunkRows first (codeAt (now (b .entry)) at) (hashTableAt (now (b .entry)) at) 0 16) ⌝ }
+    ensures { λ r. ⌜ r ≡ firstFailing (chunkRows blake2sOf first (codeAt (now (b .entry)) at) (hashTableAt (now (b .entry)) at) 0 16) ⌝ }
 {
     let table = hash_table_at(b, at);
     let code = span_of(b, code_span_at(b, at));

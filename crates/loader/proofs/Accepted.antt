@@ -1,29 +1,25 @@
 -- What the checks of a loader accept, said of the bytes: an acceptance says each of it, and all of it together makes an acceptance. The same of the digest question.
 -- Assumes nothing.
 use Prim.Native.Nat.{ℕ, _≤_}
-use mathlib.Core.Path.{_≡_, refl, sym, subst, ap, ap₂, _∙_}
+use mathlib.Core.Path.{_≡_, refl, sym, subst, ap, _∙_}
 use mathlib.Core.Bool.{Bool, true, false}
-use mathlib.Core.List.{List, [], _∷_}
+use mathlib.Core.List.{List, []}
 use native.Mathlib.Omega.{arith}
-use lib.ListN.{length, getD, take, drop, replicate, length-take}
-use lib.Dec.{eqb}
-use borrow.Author.Tests.{eqb-true, not-false}
-use Rattle.octets.specs.Read.{u32At, between, startsWith}
-use Rattle.octets.proofs.Laws.{and-left, and-right}
+use lib.ListN.{getD, take, drop}
+use Rattle.octets.specs.Read.{u32At, between}
+use Rattle.code_header.proofs.Facts as facts
 use Rattle.code_header.proofs.Facts.{in-time, time-passes, mask-signed, signed-mask}
 use Rattle.header.specs.Table.{firstFailing}
 use Rattle.header.specs.declared.Refusal.{Refusal}
-use Rattle.header.specs.declared.Outcome.{Outcome}
 use Rattle.header.specs.declared.Outcome.the-variants.{Pass, Refused}
 use Rattle.header.proofs.Rows.{passes-here, pass-head, pass-tail}
 use Rattle.header.proofs.Facts.{keys-possible}
 use Rattle.image.specs.Answer.{imageAt}
 use Rattle.image.specs.Parts.{whenAccepted}
-use Rattle.image.specs.declared.Version.{Version}
 use Rattle.image.specs.declared.Image.{Image}
 use Rattle.image.specs.declared.Answer.the-variants.{Accepted, Rejected}
-use Rattle.image.proofs.Facts.{accepted, passed, told}
-use Rattle.signing.specs.Digests.{answered}
+use Rattle.image.proofs.Facts.{accepted, passed, told, image-is}
+use Rattle.signing.proofs.Laws.{outcome-is, refused-zeros}
 use Rattle.loader.specs.declared.AreaInputs.{AreaInputs}
 use Rattle.loader.specs.Check.{TRZB, codeOf, magicMissing, areaRows, checkArea, checkCard, checkInternal}
 use Rattle.loader.specs.Digest.{digestRows, loaderDigest}
@@ -34,28 +30,17 @@ use Rattle.loader.proofs.Hashes.{code-is, hashes-right, hashes-unused, 
 
 -- ---- the magic
 
--- bytes that start with a magic, and are no longer, are the magic
-starts-are : (m s : List ℕ) → startsWith m s ≡ true → length s ≤ length m → s ≡ m
-starts-are [] [] h l = refl
-starts-are [] (y ∷ s) h l = absurd (omega arith)
-starts-are (x ∷ m) [] h l = cc
-starts-are (x ∷ m) (y ∷ s) h l =
-    ap₂ (λ (z : ℕ) (t : List ℕ). z ∷ t) (eqb-true y x (and-left _ _ h)) (starts-are m s (and-right (eqb y x) _ h) (omega arith))
-
 magic-stands : (b : List ℕ) → magicMissing b ≡ false → take 4 b ≡ TRZB
-unfolding magicMissing between
-magic-stands b h = let l = length-take 4 b in starts-are TRZB (take 4 b) (not-false _ h) (omega arith)
+unfolding magicMissing
+magic-stands b h = facts.magic-stands b 0 TRZB refl h
 
 magic-passes : (b : List ℕ) → take 4 b ≡ TRZB → magicMissing b ≡ false
-unfolding magicMissing between
-magic-passes b h = rw h
+unfolding magicMissing
+magic-passes b h = facts.magic-passes b 0 TRZB refl h
 
 magic-missing : (b : List ℕ) → (take 4 b ≡ TRZB → ⊥) → magicMissing b ≡ true
-magic-missing b h = go (magicMissing b) refl
-  where
-    go : (t : Bool) → magicMissing b ≡ t → magicMissing b ≡ true
-    go true e = e
-    go false e = absurd (h (magic-stands b e))
+unfolding magicMissing
+magic-missing b h = facts.magic-missing b 0 TRZB refl h
 
 -- ---- the header
 
@@ -90,15 +75,6 @@ question-none : (b : List ℕ) → (take 4 b ≡ TRZB → ⊥) → firstFailing 
 unfolding digestRows firstFailing
 question-none b h = rw (magic-missing b h)
 
--- an answer's outcome is that of its rows, and after a refusal its digest is zeros
-outcome-is : (o : Outcome) (d : List ℕ) → answered o d .outcome ≡ o
-outcome-is Pass d = refl
-outcome-is (Refused r) d = refl
-
-refused-zeros : (o : Outcome) (d : List ℕ) (r : Refusal) → answered o d .outcome ≡ Refused r → answered o d .digest ≡ replicate 32 0
-refused-zeros Pass d r e = cc
-refused-zeros (Refused s) d r e = refl
-
 pub loader-headers-answer : LoaderHeadersAnswer
 unfolding loaderDigest between
 loader-headers-answer =
@@ -110,12 +86,6 @@ loader-headers-answer =
     }
 
 -- ---- one area
-
--- an image is what its fields are
-image-is : (i : Image) (v c : ℕ) (x y : Version) → i .v ≡ v → i .codelen ≡ c → i .version ≡ x → i .fix ≡ y → record { v = v; codelen = c; version = x; fix = y } ≡ i
-image-is i v c x y e f g h =
-    ap₂ (λ (v c : ℕ). record { v = v; codelen = c; version = x; fix = y }) (sym e) (sym f)
-    ∙ ap₂ (λ (x y : Version). record { v = i .v; codelen = i .codelen; version = x; fix = y }) (sym g) (sym h)
 
 module _ (x : ℕ) (b : List ℕ) (given : AreaInputs) (verdict : Bool) where
   own : RowsPass x b given verdict → IsLoader x b given verdict (imageAt b 0 0)

@@ -28,18 +28,18 @@ module _ (b : List ℕ) (some : 1 ≤ u32At b 12) (most : u32At b 12 ≤ 130048)
   unfolding chunk chunkStart
   first-chunk = let l = code-long in between-end 0 130048 (codeAt b 0) (omega arith)
 
-  first-hash : hashOf (chunk mostCode 0 (codeAt b 0)) ≡ blake2sOf (take (u32At b 12) (drop 1024 b))
+  first-hash : hashOf blake2sOf (chunk mostCode 0 (codeAt b 0)) ≡ blake2sOf (take (u32At b 12) (drop 1024 b))
   first-hash =
       let l = code-long in
-      ap hashOf first-chunk ∙ sym (hash-used (codeAt b 0) (λ e. omega arith) refl) ∙ ap blake2sOf (code-is b)
+      ap (hashOf blake2sOf) first-chunk ∙ sym (hash-used blake2sOf (codeAt b 0) (λ e. omega arith) refl) ∙ ap blake2sOf (code-is b)
 
-  later-hash : (k : ℕ) → 1 ≤ k → hashOf (chunk mostCode k (codeAt b 0)) ≡ replicate 32 0
+  later-hash : (k : ℕ) → 1 ≤ k → hashOf blake2sOf (chunk mostCode k (codeAt b 0)) ≡ replicate 32 0
   later-hash zero h = absurd (omega arith)
   later-hash (suc k) h =
       let l = code-long in
       let s = start-is mostCode k in
       let e : chunk mostCode (suc k) (codeAt b 0) ≡ [] = chunk-empty mostCode (suc k) (codeAt b 0) (omega arith) in
-      sym (hash-empty (chunk mostCode (suc k) (codeAt b 0)) (ap length e) refl)
+      sym (hash-empty blake2sOf (chunk mostCode (suc k) (codeAt b 0)) (ap length e) refl)
 
   -- the hashes that stand in the header
   stands : (k : ℕ) → k < 16 → getD (hashTableAt b 0) k [] ≡ bytesAt 32 b (32 + 32 * k)
@@ -47,7 +47,7 @@ module _ (b : List ℕ) (some : 1 ≤ u32At b 12) (most : u32At b 12 ≤ 130048)
 
   pub hashes-right : firstFailing (hashRows b) ≡ Pass → bytesAt 32 b 32 ≡ blake2sOf (take (u32At b 12) (drop 1024 b))
   unfolding hashRows
-  hashes-right h = sym (stands 0 (omega arith)) ∙ sym (chunk-rows-right _ _ _ 0 16 h 0 (omega arith) (omega arith)) ∙ first-hash
+  hashes-right h = sym (stands 0 (omega arith)) ∙ sym (chunk-rows-right _ _ _ _ 0 16 h 0 (omega arith) (omega arith)) ∙ first-hash
 
   pub hashes-unused : firstFailing (hashRows b) ≡ Pass → (k : ℕ) → 2 ≤ k → k ≤ 16 → bytesAt 32 b (32 * k) ≡ replicate 32 0
   unfolding hashRows
@@ -55,14 +55,14 @@ module _ (b : List ℕ) (some : 1 ≤ u32At b 12) (most : u32At b 12 ≤ 130048)
       let e : 32 * k ≡ 32 + 32 * (k - 1) = omega arith in
       ap (bytesAt 32 b) e
       ∙ sym (stands (k - 1) (omega arith))
-      ∙ sym (chunk-rows-right _ _ _ 0 16 h (k - 1) (omega arith) (omega arith))
+      ∙ sym (chunk-rows-right _ _ _ _ 0 16 h (k - 1) (omega arith) (omega arith))
       ∙ later-hash (k - 1) (omega arith)
 
   pub hashes-pass : bytesAt 32 b 32 ≡ blake2sOf (take (u32At b 12) (drop 1024 b)) → ((k : ℕ) → 2 ≤ k → k ≤ 16 → bytesAt 32 b (32 * k) ≡ replicate 32 0) → firstFailing (hashRows b) ≡ Pass
   unfolding hashRows
-  hashes-pass e f = chunk-rows-pass _ _ _ 0 16 right
+  hashes-pass e f = chunk-rows-pass _ _ _ _ 0 16 right
     where
-      right : (i : ℕ) → 0 ≤ i → i < 0 + 16 → hashOf (chunk mostCode i (codeAt b 0)) ≡ getD (hashTableAt b 0) i []
+      right : (i : ℕ) → 0 ≤ i → i < 0 + 16 → hashOf blake2sOf (chunk mostCode i (codeAt b 0)) ≡ getD (hashTableAt b 0) i []
       right zero g l = first-hash ∙ sym e ∙ sym (stands 0 (omega arith))
       right (suc i) g l =
           let p : 32 * suc (suc i) ≡ 32 + 32 * suc i = omega arith in

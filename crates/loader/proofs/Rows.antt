@@ -14,6 +14,8 @@ use Rattle.code_header.proofs.Facts.{code-len-inside, inside-code-len}
 use Rattle.header.specs.Steps.{keysImpossible, policyImpossible}
 use Rattle.header.specs.Table.{firstFailing}
 use Rattle.header.specs.declared.Outcome.the-variants.{Pass}
+use Rattle.header.proofs.Facts.{passing-extent}
+use Rattle.header.proofs.Facts as facts
 use Rattle.header.proofs.Rows.{passes-here, stage-passes, ends, pass-head, pass-tail, stage-first, stage-then}
 use Rattle.loader.specs.declared.AreaInputs.{AreaInputs}
 use Rattle.loader.specs.Check.{mostCode, magicMissing, shapeRows, policyRows, extentRows, hashRows, areaRows}
@@ -122,10 +124,8 @@ pub record Extends (x : ℕ) (b : List ℕ) : Type 0 where
 
 pub extends : (x : ℕ) (b : List ℕ) → firstFailing (extentRows x b) ≡ Pass → Extends x b
 unfolding extentRows
-extends x b h =
-    record { held = ltb-false (length b) (1024 + u32At b 12) (pass-head _ _ _ h); tail = not-false _ (pass-head _ _ _ (pass-tail _ _ _ h)) }
+extends x b h = let e = facts.extent-passes _ b 0 h in record { held = e .held; tail = not-false _ (e .tail) }
 
 pub extent-passes : (x : ℕ) (b : List ℕ) → Extends x b → firstFailing (extentRows x b) ≡ Pass
 unfolding extentRows
-extent-passes x b e =
-    sym (passes-here _ _ (le-ltb (length b) (1024 + u32At b 12) (e .held)) (passes-here _ _ (ap not (e .tail)) ends))
+extent-passes x b e = passing-extent (record { held = e .held; tail = ap not (e .tail) })

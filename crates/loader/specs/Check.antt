@@ -4,9 +4,10 @@
 use Prim.Native.Nat.{ℕ}
 use mathlib.Core.List.{List, [], _∷_, _++_}
 use mathlib.Core.Bool.{Bool, not}
-use Rattle.code_header.specs.Tests.{headerCutAt, magicMissingAt, hdrLenWrongAt, codeLenWrongAt, bytesNotZeroAt, expiredAt, maskWrongAt, codeCutAt, tailNotAt}
+use Rattle.blake2s.specs.Rfc7693.{blake2sOf}
+use Rattle.code_header.specs.Tests.{headerCutAt, magicMissingAt, hdrLenWrongAt, codeLenWrongAt, bytesNotZeroAt, expiredAt, maskWrongAt, tailNotAt}
 use Rattle.header.specs.Steps.{policyImpossible}
-use Rattle.header.specs.Table.{Row, step, firstFailing}
+use Rattle.header.specs.Table.{Row, step, firstFailing, extentRowsAt}
 use Rattle.image.specs.Chunks.{hashTableAt, codeAt, chunkRows}
 use Rattle.image.specs.Answer.{imageAt, answerOf}
 use Rattle.image.specs.declared.Answer.{Answer}
@@ -36,7 +37,7 @@ shapeRows b =
     step (headerCutAt b 0) 2 2
     ∷ step (hdrLenWrongAt b 0) 11 2
     ∷ step (codeLenWrongAt b 0 mostCode) 12 2
-    ∷ step (bytesNotZeroAt b 0) 6 2
+    ∷ step (bytesNotZeroAt b 0 544 959) 6 2
     ∷ []
 
 -- S18 to S20, S19 by the key policy
@@ -49,11 +50,11 @@ policyRows b given verdict =
 
 -- S21; and S22: a later byte that is not x
 unfoldable pub extentRows : ℕ → List ℕ → List Row
-extentRows x b = step (codeCutAt b 0) 2 3 ∷ step (tailNotAt b 0 x) 13 3 ∷ []
+extentRows x b = extentRowsAt (tailNotAt b 0 x) b 0
 
 -- S23: chunk 1 holds all of the code
 unfoldable pub hashRows : List ℕ → List Row
-hashRows b = chunkRows mostCode (codeOf b) (hashTableAt b 0) 0 16
+hashRows b = chunkRows blake2sOf mostCode (codeOf b) (hashTableAt b 0) 0 16
 
 unfoldable pub areaRows : ℕ → List ℕ → AreaInputs → Bool → List Row
 areaRows x b given verdict =

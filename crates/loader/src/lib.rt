@@ -7,7 +7,6 @@ pub mod choice;
 pub mod theorems;
 
 use code_header::tests::bytes_not_zero_at;
-use code_header::tests::code_cut_at;
 use code_header::tests::code_len_wrong_at;
 use code_header::tests::expired_at;
 use code_header::tests::hdr_len_wrong_at;
@@ -17,6 +16,7 @@ use code_header::tests::mask_wrong_at;
 use code_header::tests::tail_not_at;
 use header::Outcome;
 use header::steps::policy_impossible;
+use header::table::extent_rows_at;
 use header::table::refuse;
 use image::Answer;
 use image::accepted_part;
@@ -61,7 +61,7 @@ fn shape_rows(b: &[u8]) -> Outcome
     if code_len_wrong_at(b, 0, 130048) {
         return refuse(12, 2);
     }
-    if bytes_not_zero_at(b, 0) {
+    if bytes_not_zero_at(b, 0, 544, 959) {
         return refuse(6, 2);
     }
     Outcome::Pass
@@ -87,13 +87,7 @@ fn policy_rows(b: &[u8], given: AreaInputs, verdict: bool) -> Outcome
 fn extent_rows(tail: u8, b: &[u8]) -> Outcome
     ensures { λ r. ⌜ r ≡ firstFailing (extentRows tail (now (b .entry))) ⌝ }
 {
-    if code_cut_at(b, 0) {
-        return refuse(2, 3);
-    }
-    if tail_not_at(b, 0, tail) {
-        return refuse(13, 3);
-    }
-    Outcome::Pass
+    extent_rows_at(tail_not_at(b, 0, tail), b, 0)
 }
 
 // S23.

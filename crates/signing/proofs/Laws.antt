@@ -13,6 +13,7 @@ use Rattle.header.specs.Layout.{TRZV, vendorLen, maskAt}
 use Rattle.header.specs.Steps.{vendorMagicMissing}
 use Rattle.header.specs.Table.{Row, firstFailing, vendorShape, firmwareShape}
 use Rattle.header.specs.Outcome.{told}
+use Rattle.header.specs.declared.Refusal.{Refusal}
 use Rattle.header.specs.declared.Outcome.{Outcome}
 use Rattle.header.specs.declared.Outcome.the-variants.{Pass, Refused}
 use Rattle.header.proofs.Rows.{same-row, same-stage, stage-first, stage-then, pass-tail}
@@ -34,6 +35,15 @@ answers rows b e magic first found h = rw (← magic, ← first, found) h
 -- the same of an outcome that is given
 pub answers-given : {o p : Outcome} {d : List ℕ} (e : List ℕ) → o ≡ p → record { outcome = p; digest = d } ≡ answered p e → record { outcome = o; digest = d } ≡ answered o e
 answers-given e found h = rw found h
+
+-- an answer's outcome is that of its rows, and after a refusal its digest is zeros
+pub outcome-is : (o : Outcome) (d : List ℕ) → answered o d .outcome ≡ o
+outcome-is Pass d = refl
+outcome-is (Refused r) d = refl
+
+pub refused-zeros : (o : Outcome) (d : List ℕ) (r : Refusal) → answered o d .outcome ≡ Refused r → answered o d .digest ≡ replicate 32 0
+refused-zeros Pass d r e = cc
+refused-zeros (Refused s) d r e = refl
 
 -- a call that promises its reply promises what the outcome tells
 pub tells : {x y : Digest} → x ≡ y → (x ≡ y) × (told (x .outcome) ≡ told (y .outcome))

@@ -17,6 +17,7 @@ use Rattle.header.specs.Steps.{vendorMagicMissing}
 use Rattle.header.specs.declared.Inputs.{Inputs}
 use Rattle.header.proofs.Rows.{passes-here, ends}
 use Rattle.header.proofs.Facts.{headers-pass, vendor-allowed, firmware-allowed}
+use Rattle.blake2s.specs.Rfc7693.{blake2sOf}
 use Rattle.image.specs.Chunks.{hashesOf, hashTable, codeOf}
 use Rattle.image.specs.Answer.{versionAt, imageOf}
 use Rattle.image.specs.Check.{checkFile}
@@ -146,7 +147,7 @@ module _ (b : List ℕ) (bytes : (i : ℕ) → getD b i 0 < 256) (magic : starts
       split-magic TRZF (between v (v + 4) b) (k .firmware .magic)
       ∙ on TRZF (drop-of-length-le (between v (v + 4) b) {i = 4} (omega arith))
 
-  hashes-are : joined (hashesOf 16 (firstRoom v) (codeOf b)) ≡ between (v + 32) (v + 544) b
+  hashes-are : joined (hashesOf blake2sOf 16 (firstRoom v) (codeOf b)) ≡ between (v + 32) (v + 544) b
   unfolding hashTable
   hashes-are =
       let e : v + 32 + 32 * 16 ≡ v + 544 = omega arith in
@@ -177,7 +178,7 @@ module _ (b : List ℕ) (bytes : (i : ℕ) → getD b i 0 < 256) (magic : starts
   unfolding firmwareHeader
   firmware-again =
       rw (code-length b (k .held))
-      (firmware-row firmwareOf (codeLen b) (hashesOf 16 (firstRoom v) (codeOf b)) (between (v + 960) (v + 1024) b) (codeOf b ++ drop (imageLen b) b)
+      (firmware-row firmwareOf (codeLen b) (hashesOf blake2sOf 16 (firstRoom v) (codeOf b)) (between (v + 960) (v + 1024) b) (codeOf b ++ drop (imageLen b) b)
       ∙ rw hashes-are (sym firmware-apart))
 
   parts-size : v ≡ sizeOf (parts b)

@@ -7,6 +7,7 @@ use lib.ListN.{length, take, length-append}
 use Rattle.header.specs.Layout.{firstRoom}
 use Rattle.header.specs.Table.{firstFailing}
 use Rattle.header.specs.declared.Outcome.the-variants.{Pass}
+use Rattle.blake2s.specs.Rfc7693.{blake2sOf}
 use Rattle.image.specs.Chunks.{hashesOf}
 use Rattle.writer.specs.Vendor.{vendorSize, vendorFields, vendorRefusals, vendorOutput}
 use Rattle.writer.specs.Firmware.{joined, firmwareFields, firmwareHeader, firmwareRefusals, firmwareOutput}
@@ -23,7 +24,7 @@ abbrev pub sizeOf : Parts → ℕ
 sizeOf p = vendorSize (p .vendor .n) (length (p .string)) (length (p .picture))
 
 abbrev pub hashesIn : Parts → List (List ℕ)
-hashesIn p = hashesOf 16 (firstRoom (sizeOf p)) (p .code)
+hashesIn p = hashesOf blake2sOf 16 (firstRoom (sizeOf p)) (p .code)
 
 abbrev pub vendorIn : Parts → List ℕ
 vendorIn p = vendorFields (sizeOf p) (p .vendor) (p .keys) (p .string) (p .picture) (p .vsig)

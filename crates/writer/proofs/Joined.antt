@@ -9,6 +9,7 @@ use lib.ListN.{length, getD, take, length-append}
 use lib.Seq.{take-suc}
 use Rattle.octets.specs.Read.{between, bytesAt}
 use Rattle.octets.proofs.Laws.{between-none, bytes-between}
+use Rattle.blake2s.specs.Rfc7693.{blake2sOf}
 use Rattle.image.specs.Chunks.{chunk, hashOf, hashesOf, hashesAt}
 use Rattle.image.proofs.Hashes.{hash-length}
 use Rattle.writer.specs.Firmware.{joined}
@@ -26,7 +27,7 @@ pub joined-more : (t : List (List ℕ)) (k : ℕ) → k < length t → joined (t
 joined-more t k h = rw (add-one k, take-suc t k [] h) (joined-last (take k t) (getD t k []))
 
 -- the hashes of n chunks take 32 bytes each
-pub length-hashes : (n first : ℕ) (code : List ℕ) → length (joined (hashesOf n first code)) ≡ 32 * n
+pub length-hashes : (n first : ℕ) (code : List ℕ) → length (joined (hashesOf blake2sOf n first code)) ≡ 32 * n
 unfolding hashesOf
 length-hashes zero first code = refl
 length-hashes (suc n) first code =
@@ -34,26 +35,26 @@ length-hashes (suc n) first code =
 
 -- where they stand, they are read back
 pub hashes-stand : (n first : ℕ) (code before after : List ℕ) (at : ℕ) → length before ≡ at
-    → hashesAt n (before ++ (joined (hashesOf n first code) ++ after)) at ≡ hashesOf n first code
+    → hashesAt n (before ++ (joined (hashesOf blake2sOf n first code) ++ after)) at ≡ hashesOf blake2sOf n first code
 unfolding hashesOf hashesAt
 hashes-stand zero first code before after at e = refl
 hashes-stand (suc n) first code before after at e =
     ap₂ (λ (x : List (List ℕ)) (y : List ℕ). x ++ (y ∷ []))
     (ap (λ (l : List ℕ). hashesAt n l at) apart ∙ hashes-stand n first code before (h ++ after) at e)
     (bytes-between 32 _ (at + 32 * n) long
-    ∙ ap (between (at + 32 * n) (at + 32 * n + 32)) (apart ∙ sym (append-assoc before (joined (hashesOf n first code)) (h ++ after)))
-    ∙ part-is (before ++ joined (hashesOf n first code)) h after (at + 32 * n) (at + 32 * n + 32) place (hash-length _ ∙ sym (past (at + 32 * n))))
+    ∙ ap (between (at + 32 * n) (at + 32 * n + 32)) (apart ∙ sym (append-assoc before (joined (hashesOf blake2sOf n first code)) (h ++ after)))
+    ∙ part-is (before ++ joined (hashesOf blake2sOf n first code)) h after (at + 32 * n) (at + 32 * n + 32) place (hash-length _ ∙ sym (past (at + 32 * n))))
   where
     h : List ℕ
-    h = hashOf (chunk first n code)
+    h = hashOf blake2sOf (chunk first n code)
 
     whole : List ℕ
-    whole = before ++ (joined (hashesOf n first code ++ (h ∷ [])) ++ after)
+    whole = before ++ (joined (hashesOf blake2sOf n first code ++ (h ∷ [])) ++ after)
 
-    apart : whole ≡ before ++ (joined (hashesOf n first code) ++ (h ++ after))
-    apart = ap (λ (l : List ℕ). before ++ l) (ap (λ (l : List ℕ). l ++ after) (joined-last (hashesOf n first code) h) ∙ append-assoc (joined (hashesOf n first code)) h after)
+    apart : whole ≡ before ++ (joined (hashesOf blake2sOf n first code) ++ (h ++ after))
+    apart = ap (λ (l : List ℕ). before ++ l) (ap (λ (l : List ℕ). l ++ after) (joined-last (hashesOf blake2sOf n first code) h) ∙ append-assoc (joined (hashesOf blake2sOf n first code)) h after)
 
-    place : length (before ++ joined (hashesOf n first code)) ≡ at + 32 * n
+    place : length (before ++ joined (hashesOf blake2sOf n first code)) ≡ at + 32 * n
     place = rw (length-append, length-hashes n first code, e)
 
     long : at + 32 * n + 32 ≤ length whole

@@ -15,6 +15,7 @@ use Rattle.header.specs.Table.{firstFailing, vendorShape, vendorPolicy, firmwar
 use Rattle.header.specs.declared.Inputs.{Inputs}
 use Rattle.header.specs.declared.Outcome.the-variants.{Pass}
 use Rattle.header.proofs.Rows.{passes-here, ends, stage-passes}
+use Rattle.blake2s.specs.Rfc7693.{blake2sOf}
 use Rattle.image.specs.Chunks.{hashesOf, hashesAt, hashTable, codeOf}
 use Rattle.image.specs.Answer.{imageOf}
 use Rattle.image.specs.Check.{checkFile}
@@ -99,8 +100,8 @@ module _ {p : Parts} (s : Sized p) {vroom froom : ℕ} (t : Taken p vroom froom)
       ∙ sym (append-assoc (vendorIn p) (firmwareHead (p .firmware) (length (p .code))) _))
       ∙ hashes-stand 16 (firstRoom (sizeOf p)) (p .code) w (zeros 415 ++ (p .firmware .mask ∷ (p .sig ++ p .code))) (sizeOf p + 32) l)
 
-  hashes-right : hashTable (fileOf p) ≡ hashesOf 16 (firstRoom (vendorLen (fileOf p))) (codeOf (fileOf p))
-  hashes-right = hashes-there ∙ sym (ap₂ (λ (v : ℕ) (c : List ℕ). hashesOf 16 (firstRoom v) c) (vendor-reads .len) code-there)
+  hashes-right : hashTable (fileOf p) ≡ hashesOf blake2sOf 16 (firstRoom (vendorLen (fileOf p))) (codeOf (fileOf p))
+  hashes-right = hashes-there ∙ sym (ap₂ (λ (v : ℕ) (c : List ℕ). hashesOf blake2sOf 16 (firstRoom v) c) (vendor-reads .len) code-there)
 
   told : imageOf (fileOf p) ≡ record { v = sizeOf p; codelen = length (p .code); version = p .firmware .version; fix = p .firmware .fix }
   unfolding imageOf

@@ -8,6 +8,7 @@ use Rattle.octets.specs.Put.{le32, zeros}
 use Rattle.header.specs.Layout.{TRZF, firstRoom}
 use Rattle.header.specs.Steps.{lengthImpossible, codeLenImpossible}
 use Rattle.header.specs.Table.{Row, step, firstFailing}
+use Rattle.blake2s.specs.Rfc7693.{blake2sOf}
 use Rattle.image.specs.Chunks.{hashesOf}
 use Rattle.image.specs.declared.Version.{Version}
 use Rattle.writer.specs.Writers.{answered, output}
@@ -41,7 +42,7 @@ firmwareFields f codelen hashes sig = firmwareHead f codelen ++ (joined hashes +
 
 -- the firmware header, for code behind a vendor header of v bytes
 unfoldable pub firmwareHeader : ℕ → Firmware → List ℕ → List ℕ → List ℕ
-firmwareHeader v f code sig = firmwareFields f (length code) (hashesOf 16 (firstRoom v) code) sig
+firmwareHeader v f code sig = firmwareFields f (length code) (hashesOf blake2sOf 16 (firstRoom v) code) sig
 
 -- ---- the refusals, in order, by the lengths of the code and the output
 

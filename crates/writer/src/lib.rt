@@ -31,6 +31,7 @@ ghost use Rattle.octets.specs.Put.{Put};
 ghost use Rattle.octets.specs.Rounding.{roundUp};
 ghost use Rattle.header.specs.Layout.{pictureStart};
 ghost use Rattle.header.specs.Table.{firstFailing};
+ghost use Rattle.blake2s.specs.Rfc7693.{blake2sOf};
 ghost use Rattle.image.specs.Chunks.{hashesOf};
 ghost use Rattle.writer.specs.Writers.{told};
 ghost use Rattle.writer.specs.Vendor.{vendorHead, vendorFront, vendorBack, vendorRefusals, vendorAnswer, vendorOutput};
@@ -208,7 +209,7 @@ pub fn write_vendor(
 // The hashes of the sixteen chunks of the code, the first of which has room for `first` bytes.
 fn hashes_of(first: usize, code: &[u8]) -> [[u8; 32]; 16]
     requires { ⌜ first ≤ 131072 ⌝ }
-    ensures { λ r. ⌜ r ≡ hashesOf 16 first (now (code .entry)) ⌝ }
+    ensures { λ r. ⌜ r ≡ hashesOf blake2sOf 16 first (now (code .entry)) ⌝ }
 {
     let mut t = [[0u8; 32]; 16];
     let mut at: usize = 0;

@@ -1,6 +1,5 @@
--- `loader::extent_rows` meets its contract: each test is a row's by its promise, in the table's order.
+-- `loader::extent_rows` meets its contract: `extent_rows_at` is asked where the header starts, with the test of the later bytes.
 use borrow.Author.Needs.{needs}
-use Rattle.header.proofs.Rows.{rows}
 use Rattle.loader.specs.Check.{extentRows}
 use Rattle.loader.proofs.extent_rows.Statement.{statement}
 use Rattle.loader.proofs.extent_rows.Tie as tie
@@ -12,8 +11,4 @@ extent-rows-spec =
     (tie.spec
     (λ c κs. search needs)
     (λ c κs. search needs)
-    (λ c. search rows depth 9)
-    (λ c κs. search needs)
-    (λ c κs. search needs)
-    (λ c. search rows depth 9)
-    (λ c. search rows depth 9))
+    (λ c. cc))

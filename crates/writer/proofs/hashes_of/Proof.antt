@@ -7,13 +7,14 @@ use lib.ListN.{length, take}
 use lib.Seq.{take-all}
 use borrow.Author.Needs.{needs}
 use Rattle.octets.specs.Read.{between}
+use Rattle.blake2s.specs.Rfc7693.{blake2sOf}
 use Rattle.image.specs.Chunks.{chunkStart, hashOf, hashesOf}
 use Rattle.image.proofs.Hashes.{room-most, start-more, start-most, chunk-is, hash-of-more}
 use Rattle.writer.proofs.hashes_of.Statement.{statement}
 use Rattle.writer.proofs.hashes_of.Tie as tie
 
 abbrev Inv-loop : tie.InvT-loop
-Inv-loop first code t₀ at₀ k₀ t at k = (k ≤ 16) × (at ≡ chunkStart first k) × (length t ≡ 16) × (take k t ≡ hashesOf k first code)
+Inv-loop first code t₀ at₀ k₀ t at k = (k ≤ 16) × (at ≡ chunkStart first k) × (length t ≡ 16) × (take k t ≡ hashesOf blake2sOf k first code)
 
 abbrev μ-loop : tie.MeasureT-loop
 μ-loop first code t₀ at₀ k₀ t at k = 16 - k
@@ -38,9 +39,9 @@ loop-again c =
       omega arith,
       e,
       search needs,
-      hash-of-more (l .loop .t) (a .first) (now (a .code)) (l .loop .k) (omega arith) (i .3)
+      hash-of-more blake2sOf (l .loop .t) (a .first) (now (a .code)) (l .loop .k) (omega arith) (i .3)
           (c .hash-of .ensures
-          ∙ ap hashOf (c .before .part .ensures ∙ ap₂ (λ (x y : ℕ). between x y (now (a .code))) (i .1) e ∙ chunk-is (a .first) (l .loop .k) (now (a .code)))),
+          ∙ ap (hashOf blake2sOf) (c .before .part .ensures ∙ ap₂ (λ (x y : ℕ). between x y (now (a .code))) (i .1) e ∙ chunk-is (a .first) (l .loop .k) (now (a .code)))),
     )
 
 returns : tie.Need-returns Inv-loop μ-loop

@@ -5,6 +5,7 @@ use mathlib.Core.Path.{refl, sym, ap, _∙_}
 use lib.ListN.{length}
 use Prim.Native.Nat.{ℕ}
 use borrow.Author.Needs.{needs}
+use Rattle.blake2s.specs.Rfc7693.{blake2sOf}
 use Rattle.image.specs.Chunks.{hashesOf}
 use Rattle.header.proofs.Told.{told-beside}
 use Rattle.writer.specs.Writers.{told}
@@ -26,7 +27,7 @@ returns-2 c =
     let k = c .before .before in
     let t = k .before .before .before in
     let e = t .before .before in
-    let h = t .hashes-of .ensures ∙ ap (λ (i : ℕ). hashesOf 16 i (now (start e .args .code))) (t .before .first-room .ensures) in
+    let h = t .hashes-of .ensures ∙ ap (λ (i : ℕ). hashesOf blake2sOf 16 i (now (start e .args .code))) (t .before .first-room .ensures) in
     told-beside told (wrote (e .before .before .firmware-refusals .ensures) (e .enum-told .given .1) refl (rw h at (k .firmware-fields .ensures)))
 
 pub write-firmware-spec : {M : Type 1} → statement M

@@ -1,18 +1,12 @@
--- `header::table::extent_rows` meets its contract: each test is a row's, in the table's order.
+-- `header::table::extent_rows` meets its contract: `extent_rows_at` is asked where `vendor_len` says that the firmware header starts.
 use borrow.Author.Needs.{needs}
-use Rattle.header.specs.Table.{extentRows}
-use Rattle.header.proofs.Rows.{rows}
 use Rattle.header.proofs.table.extent_rows.Statement.{statement}
 use Rattle.header.proofs.table.extent_rows.Tie as tie
 
 pub extent-rows-spec : {M : Type 1} → statement M
-unfolding extentRows
 extent-rows-spec =
     tie.close
     (tie.spec
     (λ c κs. search needs)
     (λ c κs. search needs)
-    (λ c. search rows depth 9)
-    (λ c κs. search needs)
-    (λ c. search rows depth 9)
-    (λ c. search rows depth 9))
+    (λ c. cc))

@@ -10,6 +10,6 @@ chunk-row-spec =
     (tie.spec
     (λ c κs. search needs)
     (λ c κs. search needs)
-    (λ c. row-passed _ _ _ (c .before .before .hash-of .ensures) (c .before .same-digest .ensures) (c .if1 .taken))
+    (λ c. row-passed _ _ _ _ (c .before .before .hash-of .ensures) (c .before .same-digest .ensures) (c .if1 .taken))
     (λ c κs. search needs)
-    (λ c. row-failed _ _ _ (c .before .before .before .hash-of .ensures) (c .before .before .same-digest .ensures) (c .before .if1 .left) (c .wrong-hash .ensures)))
+    (λ c. row-failed _ _ _ _ (c .before .before .before .hash-of .ensures) (c .before .before .same-digest .ensures) (c .before .if1 .left) (c .wrong-hash .ensures)))

@@ -7,6 +7,7 @@ use mathlib.Core.List.{List}
 use Prim.Native.Nat.{ℕ, _-_}
 use Rattle.octets.specs.Read.{spanOf}
 use Rattle.octets.specs.declared.Span.{Span}
+use Rattle.blake2s.specs.Rfc7693.{blake2sOf}
 use Rattle.header.specs.Table.{firstFailing}
 use Rattle.image.specs.Chunks.{hashTableAt, codeAt, chunkRows}
 use Rattle.image.proofs.Hashes.{Reached, reached-first, next-small, reached-end, reached-next, reached-wrong}
@@ -14,7 +15,7 @@ use Rattle.image.proofs.chunks.chunk_rows_at.Statement.{statement}
 use Rattle.image.proofs.chunks.chunk_rows_at.Tie as tie
 
 abbrev Inv-loop : tie.InvT-loop
-Inv-loop b at first table code room from₀ k₀ from k = Reached first code table from k
+Inv-loop b at first table code room from₀ k₀ from k = Reached blake2sOf first code table from k
 
 abbrev μ-loop : tie.MeasureT-loop
 μ-loop b at first table code room from₀ k₀ from k = 16 - k
@@ -22,12 +23,12 @@ abbrev μ-loop : tie.MeasureT-loop
 -- the code and the table that the loop reads are those of the promise
 rows-are : (s : tie.After-span-of Inv-loop μ-loop)
     → let a = s .before .before .before .before .args in
-    firstFailing (chunkRows (a .first) (now (s .span-of .result)) (s .before .before .hash-table-at .result) 0 16)
-    ≡ firstFailing (chunkRows (a .first) (codeAt (now (a .b)) (a .at)) (hashTableAt (now (a .b)) (a .at)) 0 16)
+    firstFailing (chunkRows blake2sOf (a .first) (now (s .span-of .result)) (s .before .before .hash-table-at .result) 0 16)
+    ≡ firstFailing (chunkRows blake2sOf (a .first) (codeAt (now (a .b)) (a .at)) (hashTableAt (now (a .b)) (a .at)) 0 16)
 rows-are s =
     let a = s .before .before .before .before .args in
     ap₂
-    (λ (code : List ℕ) (table : List (List ℕ)). firstFailing (chunkRows (a .first) code table 0 16))
+    (λ (code : List ℕ) (table : List (List ℕ)). firstFailing (chunkRows blake2sOf (a .first) code table 0 16))
     (s .span-of .ensures ∙ ap (λ (x : Span). spanOf x (now (a .b))) (s .before .code-span-at .ensures))
     (s .before .before .hash-table-at .ensures)
 
@@ -61,7 +62,7 @@ chunk-rows-at-spec =
     (λ c κs. search needs)
     (λ c κs. search needs)
     (λ c κs. search needs)
-    (λ c. reached-first _ _ _)
+    (λ c. reached-first _ _ _ _)
     (λ c κs. search needs)
     add-next
     (λ c. search needs)

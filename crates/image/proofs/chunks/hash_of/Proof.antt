@@ -9,6 +9,6 @@ pub hash-of-spec : {M : Type 1} → statement M
 hash-of-spec =
     tie.close
     (tie.spec
-    (λ c. hash-empty _ (c .if1 .taken) refl)
+    (λ c. hash-empty _ _ (c .if1 .taken) refl)
     (λ c κs. search needs)
-    (λ c. hash-used _ (c .before .if1 .left) (c .blake2s .ensures)))
+    (λ c. hash-used _ _ (c .before .if1 .left) (c .blake2s .ensures)))
