@@ -26,6 +26,8 @@ extern "C" {
  * digest is BLAKE2s (RFC 7693) with no key and 32 bytes of output. It does not verify signatures: a
  * chip does, and its verdicts are inputs to a check.
  *
+ * It also checks the firmware of the older single-chip model, whose digest is SHA-256 (FIPS 180-4).
+ *
  * ## Linking
  *
  * `rt staticlib thimmorel` writes `target/staticlib/libthimmorel.a`, for x86-64 Linux. A program
@@ -109,14 +111,14 @@ extern "C" {
  * for 131,072 each; the last chunk in use may be partly filled. Hash k is the digest of the code in
  * chunk k, or all zero if chunk k holds none.
  *
- * The loader, which is the second stage of the boot code, has an image of its own, without a vendor
- * header. See "Loaders" below.
+ * The loader, which is the second stage of the boot code, and the firmware of the older model have
+ * images of their own, without a vendor header. See "Loaders" and "The older model" below.
  */
 
 /** The version of this interface. */
-#define THIMMOREL_VERSION "0.5.0"
+#define THIMMOREL_VERSION "0.6.0"
 #define THIMMOREL_VERSION_MAJOR 0
-#define THIMMOREL_VERSION_MINOR 5
+#define THIMMOREL_VERSION_MINOR 6
 #define THIMMOREL_VERSION_PATCH 0
 
 /** Sizes in bytes. */
@@ -129,11 +131,25 @@ extern "C" {
 #define THIMMOREL_LOADER_HEADER_SIZE 1024u
 #define THIMMOREL_LOADER_CODE_MAX 130048u
 #define THIMMOREL_LOADER_MAX 131072u
+#define THIMMOREL_LEGACY_HEADER_SIZE 256u
+#define THIMMOREL_V2_HEADER_SIZE 1024u
+#define THIMMOREL_V2_CODE_MAX 2095872u
 #define THIMMOREL_PAGE_SIZE 4096u
 #define THIMMOREL_WORD_SIZE 4u
 #define THIMMOREL_SLOT_MAX 2097152u
 #define THIMMOREL_FILE_MIN 1540u
 #define THIMMOREL_RECORD_SIZE 64u
+
+/** How many keys the key sheet of the older model may have. */
+#define THIMMOREL_OLDER_KEYS_MIN 3u
+#define THIMMOREL_OLDER_KEYS_MAX 255u
+
+/** Where the three key indexes and the three signatures are in each header of the older model, in
+    bytes from that header's start. An index is 1 byte, and a signature THIMMOREL_SIG_SIZE bytes. */
+#define THIMMOREL_LEGACY_INDEXES 8u
+#define THIMMOREL_LEGACY_SIGNATURES 64u
+#define THIMMOREL_V2_SIGNATURES 544u
+#define THIMMOREL_V2_INDEXES 736u
 
 /** A verdict that is yes. Any other word is no. */
 #define THIMMOREL_YES 1u
@@ -146,7 +162,8 @@ extern "C" {
 enum thimmorel_error {
 	/** Success. */
 	THIMMOREL_OK = 0,
-	/** The bytes do not start with `TRZV`, or for a loader with `TRZB`. */
+	/** The bytes do not start with `TRZV`, for a loader with `TRZB`, or for a pair of the older
+	    model with `TRZR`. */
 	THIMMOREL_ERROR_VENDOR_MAGIC = 1,
 	/** The bytes end before this part of the image does. */
 	THIMMOREL_ERROR_TOO_SHORT = 2,
@@ -160,15 +177,17 @@ enum thimmorel_error {
 	THIMMOREL_ERROR_NOT_ZERO = 6,
 	/** The time is later than the header's expiry. */
 	THIMMOREL_ERROR_EXPIRED = 7,
-	/** The sigmask names a key index of n or above, or does not name exactly m keys. */
+	/** The sigmask names a key index of n or above, or does not name exactly m keys; in the older
+	    model, a key index is 0 or above the number of keys, or two are equal. */
 	THIMMOREL_ERROR_SIGMASK = 8,
-	/** The verdict on the header's signature is no. */
+	/** The verdict on the header's signature is no, or in the older model on one of its three. */
 	THIMMOREL_ERROR_VERDICT = 9,
-	/** The firmware header does not start with `TRZF`. */
+	/** The firmware header, or the V2 header, does not start with `TRZF`. */
 	THIMMOREL_ERROR_FIRMWARE_MAGIC = 10,
-	/** The firmware header, or a loader's, does not give its length as 1,024. */
+	/** The firmware header, a loader's or the V2 header does not give its length as 1,024. */
 	THIMMOREL_ERROR_FIRMWARE_LENGTH = 11,
-	/** The code length is 0, not a multiple of 4, or more than an image holds. */
+	/** The code length is 0, not a multiple of 4, or more than an image holds; in the legacy header
+	    it is under 1,028, or that of the V2 header behind it is not 1,024 less. */
 	THIMMOREL_ERROR_CODE_LENGTH = 12,
 	/** Bytes follow the code: any byte in a file, a byte other than 255 in a slot or the internal
 	    area, a byte other than 0 on a card. */
@@ -177,7 +196,8 @@ enum thimmorel_error {
 	THIMMOREL_ERROR_CHUNK_HASH = 14,
 	/** The hash of a chunk without code is not all zero. */
 	THIMMOREL_ERROR_UNUSED_HASH = 15,
-	/** The caller's key policy is not 1 <= m <= n <= 8. */
+	/** The caller's key policy is not 1 <= m <= n <= 8, or the older model's key sheet does not
+	    have 3 to 255 keys. */
 	THIMMOREL_ERROR_POLICY = 16,
 	/** Chunk 1 has no room for code. */
 	THIMMOREL_ERROR_NO_ROOM = 17,
@@ -203,8 +223,9 @@ enum thimmorel_error {
 /** \brief The part of an image that a check's refusal is about. */
 enum thimmorel_part {
 	THIMMOREL_PART_NONE = 0,
+	/** The vendor header, or the legacy header of the older model. */
 	THIMMOREL_PART_VENDOR_HEADER = 1,
-	/** The firmware header, or the header of a loader. */
+	/** The firmware header, the header of a loader, or the V2 header of the older model. */
 	THIMMOREL_PART_FIRMWARE_HEADER = 2,
 	THIMMOREL_PART_CODE = 3
 };
@@ -260,6 +281,19 @@ struct thimmorel_loader_inputs {
 	uint32_t internal_verdict;
 };
 
+/** \brief What a check of the older model is given besides the bytes. */
+struct thimmorel_older_inputs {
+	/** The current time. */
+	uint32_t time;
+	/** How many keys the caller's key sheet has. */
+	uint32_t keys;
+	/** The chip's verdicts on the three signatures of the legacy header, in their order: 1 is yes,
+	    any other word no. */
+	uint32_t legacy_verdicts[3];
+	/** Likewise on those of the V2 header. */
+	uint32_t v2_verdicts[3];
+};
+
 /** \brief The answer of a check, a digest question, a choice or a close. It is always written. */
 struct thimmorel_answer {
 	/** One of `enum thimmorel_error`. */
@@ -272,7 +306,7 @@ struct thimmorel_answer {
 
 /** \brief What an acceptance tells. */
 struct thimmorel_image {
-	/** The length v of the vendor header. It is 0 for a loader. */
+	/** The length v of the vendor header. It is 0 for a loader and for the older model. */
 	uint32_t vendor_length;
 	/** The length of the code. */
 	uint32_t code_length;
@@ -415,6 +449,8 @@ struct thimmorel_signatures {
  * The digest is that of RFC 7693 for these bytes, with no key and 32 bytes of output. The call
  * cannot fail, and takes slices of any length. It reads the bytes and does not change them. It
  * writes all 32 bytes of the digest, and nothing else.
+ *
+ * The digests of the older model are SHA-256 instead: see thimmorel_sha256().
  *
  * \param bytes    the bytes to digest.
  * \param length   the number of bytes.
@@ -1049,6 +1085,264 @@ uint32_t thimmorel_choose_loader(const uint8_t *card, uint64_t card_length,
 	const uint8_t *internal, uint64_t internal_length,
 	const struct thimmorel_loader_inputs *inputs, struct thimmorel_answer *answer,
 	struct thimmorel_loader *loader);
+
+/**
+ * # The older model
+ *
+ * The older single-chip model has an image of its own, in two forms. The caller names the form by
+ * the call:
+ *
+ *  - *V2*: a V2 header of 1,024 bytes, and code.
+ *
+ *  - *The pair*: a legacy header of 256 bytes, then a V2 header and code. Official releases have
+ *    this form, for boot code that knows the legacy header alone.
+ *
+ * There is no vendor header, and v is told as 0. All digests of this family are SHA-256, and no
+ * other image of this library has those: thimmorel_digest() is BLAKE2s, thimmorel_sha256() is
+ * SHA-256.
+ *
+ * The legacy header:
+ *
+ * | offset | length | field |
+ * |---|---|---|
+ * | 0 | 4 | `TRZR` |
+ * | 4 | 4 | length of V2 header and code: a multiple of 4, from 1,028 to 2,096,896 |
+ * | 8 | 3 | the key index of each signature |
+ * | 11 | 53 | zero |
+ * | 64 | 3 * 64 | signatures |
+ *
+ * The V2 header, which has no sigmask. Its offsets count from its own start, which is 256 in the
+ * pair:
+ *
+ * | offset | length | field |
+ * |---|---|---|
+ * | 0 | 4 | `TRZF` |
+ * | 4 | 4 | its length, 1,024 |
+ * | 8 | 4 | expiry; 0 means never |
+ * | 12 | 4 | code length: a multiple of 4, from 4 to 2,095,872 |
+ * | 16 | 4 | version: major, minor, patch, build |
+ * | 20 | 4 | fix version, likewise |
+ * | 24 | 8 | zero |
+ * | 32 | 16 * 32 | hashes 1 to 16 |
+ * | 544 | 3 * 64 | signatures |
+ * | 736 | 3 | the key index of each signature |
+ * | 739 | 285 | zero |
+ *
+ * In the pair, the code length is exactly 1,024 less than the length in the legacy header.
+ *
+ * Chunk 1 has room for 129,792 bytes of code in both forms, chunks 2 to 16 for 131,072 each. Hash k
+ * is the digest of the code in chunk k, or all zero if chunk k holds none.
+ *
+ * ## Keys and verdicts
+ *
+ * Each header has three signatures, by three different keys of the caller's key sheet. The sheet
+ * has 3 to 255 keys, and is the same for both headers. A key index is the number of a key in it,
+ * counted from 1. All three signatures must be good: there is a verdict for each.
+ *
+ *  - The signatures of the V2 header sign the digest of its 1,024 bytes, with the signatures and
+ *    the key indexes, which are bytes 544 to 738, taken as zero.
+ *
+ *  - The signatures of the legacy header sign the digest of the bytes behind it, as many as the
+ *    length in it says: the V2 header as it is, its signatures and key indexes among it, and the
+ *    code.
+ *
+ * An image is checked in three steps:
+ *
+ *  1. The digest question of each header: thimmorel_v2_digest() for V2; for the pair
+ *     thimmorel_pair_legacy_digest() and thimmorel_pair_v2_digest().
+ *
+ *  2. For each header and each of its three signatures, the chip verifies the signature over that
+ *     header's digest, by the key that its index names. If the index is 0 or above the number of
+ *     keys, or if the digest is refused, take the verdict as no. So a pair that is cut short is
+ *     refused with 9 under part 1, since the digest of its legacy header is refused.
+ *
+ *  3. The check of the form, with the verdicts.
+ *
+ * ## The steps
+ *
+ * The first step that fails gives the answer of a check. Those of part 1 are made for the pair
+ * alone:
+ *
+ * | fails if | number | part |
+ * |---|---|---|
+ * | `keys` is not 3 to 255 | 16 | 0 |
+ * | the bytes do not start with `TRZR` | 1 | 1 |
+ * | there are fewer than 256 bytes | 2 | 1 |
+ * | the length in the legacy header is not a multiple of 4 from 1,028 to 2,096,896 | 12 | 1 |
+ * | bytes 11 to 63 of the legacy header are not all zero | 6 | 1 |
+ * | one of its key indexes is 0 or above `keys`, or two are equal | 8 | 1 |
+ * | one of `legacy_verdicts` is not 1 | 9 | 1 |
+ * | the V2 header does not start with `TRZF`, or fewer than 4 bytes of it are there | 10 | 2 |
+ * | the bytes end before the V2 header does | 2 | 2 |
+ * | it does not give its length as 1,024 | 11 | 2 |
+ * | the code length is not a multiple of 4 from 4 to 2,095,872 | 12 | 2 |
+ * | in the pair, it is not exactly 1,024 less than the length in the legacy header | 12 | 2 |
+ * | bytes 24 to 31, or 739 to 1,023, of the V2 header are not all zero | 6 | 2 |
+ * | its expiry is not 0, and `time` is above it | 7 | 2 |
+ * | one of its key indexes is 0 or above `keys`, or two are equal | 8 | 2 |
+ * | one of `v2_verdicts` is not 1 | 9 | 2 |
+ * | the bytes end before the code does | 2 | 3 |
+ * | bytes follow the code in a file; a byte after the code is not 255 in a slot | 13 | 3 |
+ * | the lowest chunk with a wrong hash holds code | 14 | 3 |
+ * | that chunk holds no code, and its hash is not all zero | 15 | 3 |
+ */
+
+/**
+ * \brief Compute a SHA-256 digest.
+ *
+ * The digest is that of FIPS 180-4 for these bytes. The call cannot fail, and takes slices of any
+ * length. It reads the bytes and does not change them. It writes all 32 bytes of the digest, and
+ * nothing else.
+ *
+ * \param bytes    the bytes to digest.
+ * \param length   the number of bytes.
+ * \param digest   the buffer that receives the 32 bytes of the digest.
+ */
+void thimmorel_sha256(const uint8_t *bytes, uint64_t length, uint8_t digest[32]);
+
+/**
+ * \brief Check a V2 header and its code that are a file: nothing may follow the code.
+ *
+ * The steps are those above without part 1. The bytes are not changed.
+ *
+ * \param bytes    the file.
+ * \param length   the number of bytes.
+ * \param inputs   the time, the number of keys, and `v2_verdicts`. The verdicts on the legacy
+ *                 header do not matter.
+ * \param answer   always written: the number, the part and the chunk.
+ * \param image    written only on success: what the V2 header says. `vendor_length` is 0.
+ * \return 0 if the image is accepted, or the number of the step that fails.
+ */
+uint32_t thimmorel_check_v2_file(const uint8_t *bytes, uint64_t length,
+	const struct thimmorel_older_inputs *inputs, struct thimmorel_answer *answer,
+	struct thimmorel_image *image);
+
+/**
+ * \brief Check a V2 header and its code that are in a slot: the bytes after the code must be
+ * erased.
+ *
+ * Arguments, answers and steps are those of thimmorel_check_v2_file(), except that a byte after the
+ * code may be 255. Every such byte that is passed is looked at. The slot's length is not tested.
+ */
+uint32_t thimmorel_check_v2_slot(const uint8_t *bytes, uint64_t length,
+	const struct thimmorel_older_inputs *inputs, struct thimmorel_answer *answer,
+	struct thimmorel_image *image);
+
+/**
+ * \brief Check a pair of headers and the code that are a file: nothing may follow the code.
+ *
+ * The steps are all of those above. A legacy header with no V2 header behind it is refused. The
+ * bytes are not changed.
+ *
+ * \param bytes    the file.
+ * \param length   the number of bytes.
+ * \param inputs   the time, the number of keys, and all six verdicts.
+ * \param answer   always written: the number, the part and the chunk.
+ * \param image    written only on success: what the V2 header says. `code_length` is that of the V2
+ *                 header, and `vendor_length` is 0.
+ * \return 0 if the image is accepted, or the number of the step that fails.
+ */
+uint32_t thimmorel_check_pair_file(const uint8_t *bytes, uint64_t length,
+	const struct thimmorel_older_inputs *inputs, struct thimmorel_answer *answer,
+	struct thimmorel_image *image);
+
+/**
+ * \brief Check a pair of headers and the code that are in a slot: the bytes after the code must be
+ * erased.
+ *
+ * Arguments, answers and steps are those of thimmorel_check_pair_file(), except that a byte after
+ * the code may be 255. Every such byte that is passed is looked at. The slot's length is not
+ * tested.
+ */
+uint32_t thimmorel_check_pair_slot(const uint8_t *bytes, uint64_t length,
+	const struct thimmorel_older_inputs *inputs, struct thimmorel_answer *answer,
+	struct thimmorel_image *image);
+
+/**
+ * \brief Tell where the code behind a checked V2 header is.
+ *
+ * The call follows thimmorel_check_v2_file() or thimmorel_check_v2_slot() of the same bytes and
+ * takes its number. After a refusal the place is empty, and starts at 0. thimmorel_find_parts() is
+ * not for the older model.
+ *
+ * After a refusal, pass its number and not 0: such bytes have no code. Whatever is passed, the
+ * place does not reach past the end of the bytes.
+ *
+ * \param bytes    the bytes that were checked.
+ * \param length   the number of bytes.
+ * \param number   what the check returned.
+ * \param code     always written: the code.
+ */
+void thimmorel_find_v2_code(const uint8_t *bytes, uint64_t length, uint32_t number,
+	struct thimmorel_span *code);
+
+/**
+ * \brief Tell where the code behind a checked pair of headers is.
+ *
+ * Arguments and answers are those of thimmorel_find_v2_code(), after thimmorel_check_pair_file() or
+ * thimmorel_check_pair_slot().
+ */
+void thimmorel_find_pair_code(const uint8_t *bytes, uint64_t length, uint32_t number,
+	struct thimmorel_span *code);
+
+/**
+ * \brief Compute the digest that the signatures of a V2 header sign, where it stands by itself.
+ *
+ * It is the SHA-256 digest of the 1,024 bytes of the header, with bytes 544 to 738 taken as zero.
+ * The header's steps through the zero bytes must hold. The first that fails gives the answer: 10,
+ * 2, 11, 12 or 6, with part 2. No key sheet, time, key index or verdict matters, and nothing after
+ * the header is looked at, so the code need not be present. The bytes are not changed.
+ *
+ * The chip also needs the signatures, at THIMMOREL_V2_SIGNATURES, and their key indexes, at
+ * THIMMOREL_V2_INDEXES.
+ *
+ * \param bytes    the image, or its start.
+ * \param length   the number of bytes.
+ * \param answer   always written: the number and the part. The chunk is 0.
+ * \param digest   written only on success: the 32 bytes of the digest.
+ * \return 0, or the number of the step that fails.
+ */
+uint32_t thimmorel_v2_digest(const uint8_t *bytes, uint64_t length,
+	struct thimmorel_answer *answer, uint8_t digest[32]);
+
+/**
+ * \brief Compute the digest that the signatures of the V2 header in a pair sign.
+ *
+ * It is that of thimmorel_v2_digest() for the bytes from 256 on. Both headers count: the steps of
+ * the legacy header through its zero bytes must hold, then those of the V2 header through its own.
+ * The first that fails gives the answer: 1, 2, 12 or 6 with part 1, or 10, 2, 11, 12 or 6 with part
+ * 2. The code need not be present. In the bytes of the pair, signatures and key indexes are 256
+ * bytes further on than in a V2 header by itself.
+ *
+ * \param bytes    the image, or its start.
+ * \param length   the number of bytes.
+ * \param answer   always written: the number and the part. The chunk is 0.
+ * \param digest   written only on success: the 32 bytes of the digest.
+ * \return 0, or the number of the step that fails.
+ */
+uint32_t thimmorel_pair_v2_digest(const uint8_t *bytes, uint64_t length,
+	struct thimmorel_answer *answer, uint8_t digest[32]);
+
+/**
+ * \brief Compute the digest that the signatures of the legacy header in a pair sign.
+ *
+ * It is the SHA-256 digest of the bytes from 256 on, as many as the length in the legacy
+ * header says, and as they are. The steps of the legacy header through its zero bytes must hold, and
+ * these bytes must be present. The first that fails gives the answer: 1, 2, 12 or 6 with part 1, or
+ * 2 with part 3. The V2 header is not judged. No key sheet, time, key index or verdict matters,
+ * and nothing after these bytes is looked at. The bytes are not changed.
+ *
+ * The chip also needs the signatures, at THIMMOREL_LEGACY_SIGNATURES, and their key indexes, at
+ * THIMMOREL_LEGACY_INDEXES.
+ *
+ * \param bytes    the image.
+ * \param length   the number of bytes.
+ * \param answer   always written: the number and the part. The chunk is 0.
+ * \param digest   written only on success: the 32 bytes of the digest.
+ * \return 0, or the number of the step that fails.
+ */
+uint32_t thimmorel_pair_legacy_digest(const uint8_t *bytes, uint64_t length,
+	struct thimmorel_answer *answer, uint8_t digest[32]);
 
 #ifdef __cplusplus
 }

@@ -11,6 +11,9 @@ extern "C" {
     /// Computes a BLAKE2s digest.
     pub fn thimmorel_digest(bytes: *const u8, length: u64, digest: *mut [u8; 32]);
 
+    /// Computes a SHA-256 digest.
+    pub fn thimmorel_sha256(bytes: *const u8, length: u64, digest: *mut [u8; 32]);
+
     /// Checks an image that is a file.
     pub fn thimmorel_check_file(
         bytes: *const u8,
@@ -205,5 +208,71 @@ extern "C" {
         inputs: *const LoaderInputs,
         answer: *mut Answer,
         loader: *mut Loader,
+    ) -> u32;
+
+    /// Checks a V2 header and its code that are a file.
+    pub fn thimmorel_check_v2_file(
+        bytes: *const u8,
+        length: u64,
+        inputs: *const OlderInputs,
+        answer: *mut Answer,
+        image: *mut Image,
+    ) -> u32;
+
+    /// Checks a V2 header and its code that are in a slot.
+    pub fn thimmorel_check_v2_slot(
+        bytes: *const u8,
+        length: u64,
+        inputs: *const OlderInputs,
+        answer: *mut Answer,
+        image: *mut Image,
+    ) -> u32;
+
+    /// Checks both headers of the older model and the code that are a file.
+    pub fn thimmorel_check_pair_file(
+        bytes: *const u8,
+        length: u64,
+        inputs: *const OlderInputs,
+        answer: *mut Answer,
+        image: *mut Image,
+    ) -> u32;
+
+    /// Checks both headers of the older model and the code that are in a slot.
+    pub fn thimmorel_check_pair_slot(
+        bytes: *const u8,
+        length: u64,
+        inputs: *const OlderInputs,
+        answer: *mut Answer,
+        image: *mut Image,
+    ) -> u32;
+
+    /// Tells where the code behind a checked V2 header is.
+    pub fn thimmorel_find_v2_code(bytes: *const u8, length: u64, number: u32, code: *mut Span);
+
+    /// Tells where the code behind a checked pair of headers is.
+    pub fn thimmorel_find_pair_code(bytes: *const u8, length: u64, number: u32, code: *mut Span);
+
+    /// Computes the digest that the signatures of a V2 header sign.
+    pub fn thimmorel_v2_digest(
+        bytes: *const u8,
+        length: u64,
+        answer: *mut Answer,
+        digest: *mut [u8; 32],
+    ) -> u32;
+
+    /// Computes the digest that the signatures of the V2 header in a pair sign.
+    pub fn thimmorel_pair_v2_digest(
+        bytes: *const u8,
+        length: u64,
+        answer: *mut Answer,
+        digest: *mut [u8; 32],
+    ) -> u32;
+
+    /// Computes the digest that the signatures of the legacy header in a pair sign.
+    pub fn thimmorel_pair_legacy_digest(
+        bytes: *const u8,
+        length: u64,
+        answer: *mut Answer,
+        digest: *mut [u8; 32],
     ) -> u32;
 }

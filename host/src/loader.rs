@@ -6,7 +6,7 @@ use crate::ffi;
 use crate::image::Version;
 use crate::places;
 use crate::refusal::Refusal;
-use crate::shown::Counted;
+use crate::shown::{self, Counted};
 use crate::signing;
 use crate::LOADER_HEADER_SIZE;
 use core::fmt;
@@ -52,11 +52,7 @@ pub struct Loader<'a> {
 
 impl fmt::Debug for Loader<'_> {
     fn fmt(&self, f: &mut fmt::Formatter<'_>) -> fmt::Result {
-        f.debug_struct("Loader")
-            .field("version", &self.version)
-            .field("fix_version", &self.fix_version)
-            .field("code", &Counted(self.code))
-            .finish()
+        shown::versions_and_code(f, "Loader", [self.version, self.fix_version], self.code)
     }
 }
 
@@ -105,7 +101,8 @@ pub fn check_card(bytes: &[u8], inputs: LoaderInputs) -> Result<Loader<'_>, Refu
 /// assert_eq!(
 ///     check_internal(&erased, inputs).unwrap_err().to_string(),
 ///     "refused with 1 in the loader header: \
-///      the bytes do not start with TRZV, or for a loader with TRZB"
+///      the bytes do not start with TRZV, for a loader with TRZB, or for a pair of the older model \
+///      with TRZR"
 /// );
 /// ```
 pub fn check_internal(bytes: &[u8], inputs: LoaderInputs) -> Result<Loader<'_>, Refusal> {

@@ -16,7 +16,8 @@ use core::fmt;
 /// assert_eq!(
 ///     refusal.to_string(),
 ///     "refused with 1 in the vendor header: \
-///      the bytes do not start with TRZV, or for a loader with TRZB"
+///      the bytes do not start with TRZV, for a loader with TRZB, or for a pair of the older model \
+///      with TRZR"
 /// );
 /// ```
 #[derive(Clone, Copy, Debug, PartialEq, Eq, Hash)]
@@ -43,6 +44,17 @@ impl Refusal {
     pub(crate) fn of_loader(self) -> Refusal {
         let part = self.part.map(|part| match part {
             Part::FirmwareHeader => Part::LoaderHeader,
+            part => part,
+        });
+        Refusal { part, ..self }
+    }
+
+    /// The same refusal where the image is one of the older model: part 1 is then the legacy header,
+    /// and part 2 the V2 header.
+    pub(crate) fn of_older(self) -> Refusal {
+        let part = self.part.map(|part| match part {
+            Part::VendorHeader => Part::LegacyHeader,
+            Part::FirmwareHeader => Part::V2Header,
             part => part,
         });
         Refusal { part, ..self }
@@ -91,6 +103,10 @@ pub enum Part {
     FirmwareHeader,
     /// The header of a loader.
     LoaderHeader,
+    /// The legacy header of the older model.
+    LegacyHeader,
+    /// The V2 header of the older model.
+    V2Header,
     /// The code.
     Code,
 }
@@ -112,6 +128,8 @@ impl fmt::Display for Part {
             Part::VendorHeader => "vendor header",
             Part::FirmwareHeader => "firmware header",
             Part::LoaderHeader => "loader header",
+            Part::LegacyHeader => "legacy header",
+            Part::V2Header => "V2 header",
             Part::Code => "code",
         })
     }
@@ -158,23 +176,28 @@ macro_rules! reasons {
 }
 
 reasons! {
-    1 VendorMagic "the bytes do not start with TRZV, or for a loader with TRZB"
+    1 VendorMagic "the bytes do not start with TRZV, for a loader with TRZB, or for a pair of the \
+        older model with TRZR"
     2 TooShort "the bytes end before this part of the image does"
     3 VendorLength "the length of the vendor header is not a multiple of 512 from 512 to 65,536"
     4 VendorKeys "the vendor header's key numbers are not 1 <= vsig_m <= vsig_n <= 8"
     5 StringLength "the vendor string leaves no room for the signature"
     6 NotZero "a byte of the header that must be zero is not"
     7 Expired "the time is later than the header's expiry"
-    8 Sigmask "the sigmask names a key index of n or above, or does not name exactly m keys"
-    9 Verdict "the verdict on the header's signature is no"
-    10 FirmwareMagic "the firmware header does not start with TRZF"
-    11 FirmwareLength "the firmware header, or a loader's, does not give its length as 1,024"
-    12 CodeLength "the code length is 0, not a multiple of 4, or more than an image holds"
+    8 Sigmask "the sigmask names a key index of n or above, or does not name exactly m keys; in the \
+        older model, a key index is 0 or above the number of keys, or two are equal"
+    9 Verdict "the verdict on the header's signature is no, or in the older model on one of its three"
+    10 FirmwareMagic "the firmware header, or the V2 header, does not start with TRZF"
+    11 FirmwareLength "the firmware header, a loader's or the V2 header does not give its length as \
+        1,024"
+    12 CodeLength "the code length is 0, not a multiple of 4, or more than an image holds; in the \
+        legacy header it is under 1,028, or that of the V2 header behind it is not 1,024 less"
     13 BytesFollow "bytes follow the code: any byte in a file, a byte other than 255 in a slot or the \
         internal area, a byte other than 0 on a card"
     14 ChunkHash "the code in a chunk does not have the digest that its header gives"
     15 UnusedHash "the hash of a chunk without code is not all zero"
-    16 Policy "the caller's key policy is not 1 <= m <= n <= 8"
+    16 Policy "the caller's key policy is not 1 <= m <= n <= 8, or the older model's key sheet does \
+        not have 3 to 255 keys"
     17 NoRoom "chunk 1 has no room for code"
     18 FileLength "the file length is not a multiple of 4, is under 1,540, or is above the slot's \
         length"

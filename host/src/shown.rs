@@ -1,6 +1,7 @@
 //! How bytes are shown by `Debug`: a whole image would fill the screen, so most are told by their
 //! number.
 
+use crate::image::Version;
 use core::fmt;
 
 /// The number of the bytes.
@@ -31,4 +32,18 @@ impl fmt::Debug for Text<'_> {
             _ => Counted(self.0).fmt(f),
         }
     }
+}
+
+/// A struct of two versions and code.
+pub(crate) fn versions_and_code(
+    f: &mut fmt::Formatter<'_>,
+    name: &str,
+    [version, fix_version]: [Version; 2],
+    code: &[u8],
+) -> fmt::Result {
+    f.debug_struct(name)
+        .field("version", &version)
+        .field("fix_version", &fix_version)
+        .field("code", &Counted(code))
+        .finish()
 }

@@ -6,7 +6,8 @@ use crate::refusal::Refusal;
 use crate::shown::{Counted, Keys};
 use core::fmt;
 
-type Question = unsafe extern "C" fn(*const u8, u64, *mut ffi::Answer, *mut [u8; 32]) -> u32;
+pub(crate) type Question =
+    unsafe extern "C" fn(*const u8, u64, *mut ffi::Answer, *mut [u8; 32]) -> u32;
 
 /// The digest that the vendor header's signature signs.
 ///

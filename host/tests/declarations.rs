@@ -135,12 +135,12 @@ fn calls_of_ffi() -> Declarations {
 
 #[test]
 fn the_structs_of_both_are_the_same() {
-    assert_eq!(structs_of_header().len(), 16);
+    assert_eq!(structs_of_header().len(), 17);
     assert_eq!(structs_of_ffi(), structs_of_header());
 }
 
 #[test]
 fn the_calls_of_both_are_the_same() {
-    assert_eq!(calls_of_header().len(), 25);
+    assert_eq!(calls_of_header().len(), 35);
     assert_eq!(calls_of_ffi(), calls_of_header());
 }

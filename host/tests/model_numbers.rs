@@ -1,11 +1,11 @@
 //! The model against the worked numbers of the specification, 13: P1 to P12, then those without a
 //! mark. A number that the model gets wrong here would be wrong in every test that compares the
-//! archive with it.
+//! archive with it. older_numbers.rs has those of the older model.
 
 mod model;
 
 use model::blake2s::blake2s;
-use model::image::{check, parts, trust, vendor_digest, Form, Inputs, Refusal, YES};
+use model::image::{check, parts, refusal, trust, vendor_digest, Form, Inputs, Refusal, YES};
 use model::installer::{self, Operation};
 use model::layout::room_in_first;
 use model::loader::{self, Area};
@@ -19,15 +19,6 @@ const INPUTS: Inputs = Inputs {
     vendor: YES,
     firmware: YES,
 };
-
-fn refusal(number: u32, part: u32) -> Refusal {
-    let chunk = 0;
-    Refusal {
-        number,
-        part,
-        chunk,
-    }
-}
 
 /// A vendor header for policy 2 of 3, with keys for 2 of `n`, and no picture.
 fn vendor(n: u32, string: usize) -> VendorFields {

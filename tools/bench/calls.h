@@ -14,14 +14,18 @@ void put32(uint8_t *at, uint32_t x);
 /* Before all others. */
 void make_images(void);
 void make_loaders(void);
+void make_older(void);
 
-/* The digest. */
+/* The digests. */
 void pass_over_code(void);
 void pass_over_slot(void);
 void pass_over_header(void);
 void pass_over_loader(void);
 void pass_over_both_loaders(void);
 void pass_over_large_card(void);
+void sha256_over_code(void);
+void sha256_over_v2(void);
+void sha256_over_slot(void);
 
 /* The calls on an image, and the writers. */
 void check_full_file(void);
@@ -43,6 +47,18 @@ void check_small_card(void);
 void check_full_internal(void);
 void ask_loader_digest(void);
 void choose_internal(void);
+
+/* The calls on images of the older model. */
+void check_full_v2_file(void);
+void check_full_v2_slot(void);
+void check_full_pair_file(void);
+void check_full_pair_slot(void);
+void check_small_pair_slot(void);
+void find_v2_code(void);
+void find_pair_code(void);
+void ask_v2_digest(void);
+void ask_pair_v2_digest(void);
+void ask_pair_legacy_digest(void);
 
 /* The calls of an install, which has one slot and one record. A call that plans also makes its
    operation. The rest is what the install still needs, by calls of 4 bytes each. */

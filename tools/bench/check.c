@@ -1,6 +1,6 @@
 /*
  * Times the checks, the writers, the choice of a loader and installs against a BLAKE2s pass or one
- * check, in one run. Prints ratios.
+ * check, and the older model's checks against a SHA-256 pass, in one run. Prints ratios.
  */
 
 #define _POSIX_C_SOURCE 200809L
@@ -34,7 +34,7 @@ static double least(double one, double other)
 
 static void print(const char *what, double ratio)
 {
-	printf("%-56s %6.3f\n", what, ratio);
+	printf("%-58s %6.3f\n", what, ratio);
 }
 
 /* The best of many rounds, the two in turn: a disturbance makes a round slower and never faster. */
@@ -97,10 +97,23 @@ static void print_loaders(void)
 	      ratio(choose_internal, pass_over_both_loaders));
 }
 
+static void print_older(void)
+{
+	print("V2 file check of the largest image / SHA-256 of its code:",
+	      ratio(check_full_v2_file, sha256_over_code));
+	print("pair slot check of the largest image / the same:",
+	      ratio(check_full_pair_slot, sha256_over_code));
+	print("pair slot check of 1,284 bytes in 2 MiB / SHA-256 of it:",
+	      ratio(check_small_pair_slot, sha256_over_slot));
+	print("legacy digest of the largest pair / SHA-256 of its bytes:",
+	      ratio(ask_pair_legacy_digest, sha256_over_v2));
+}
+
 int main(void)
 {
 	make_images();
 	make_loaders();
+	make_older();
 	print("file check of a full image / a pass over its code:",
 	      ratio(check_full_file, pass_over_code));
 	print("slot check of a full image / a pass over its code:",
@@ -112,6 +125,7 @@ int main(void)
 	print("vendor header of 65,536 bytes / a pass over it:",
 	      ratio(write_vendor, pass_over_header));
 	print_loaders();
+	print_older();
 	print_installs();
 	return EXIT_SUCCESS;
 }

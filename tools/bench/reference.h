@@ -1,6 +1,6 @@
 /*
- * The function that reference.c has under each of its two names, once by gcc and once by the
- * kit's clang. It takes what thimmorel_digest takes.
+ * The functions that reference.c and reference_sha256.c have under their two names each, once by gcc
+ * and once by the kit's clang. They take what thimmorel_digest and thimmorel_sha256 take.
  */
 
 #ifndef REFERENCE_H
@@ -10,5 +10,7 @@
 
 void reference_gcc(const uint8_t *bytes, uint64_t length, uint8_t digest[32]);
 void reference_clang(const uint8_t *bytes, uint64_t length, uint8_t digest[32]);
+void reference_sha256_gcc(const uint8_t *bytes, uint64_t length, uint8_t digest[32]);
+void reference_sha256_clang(const uint8_t *bytes, uint64_t length, uint8_t digest[32]);
 
 #endif

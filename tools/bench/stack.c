@@ -56,6 +56,20 @@ static void print_loader(void)
 	print("choose_loader", choose_internal);
 }
 
+static void print_older(void)
+{
+	print("sha256", sha256_over_code);
+	print("check_v2_file", check_full_v2_file);
+	print("check_v2_slot", check_full_v2_slot);
+	print("check_pair_file", check_full_pair_file);
+	print("check_pair_slot", check_small_pair_slot);
+	print("find_v2_code", find_v2_code);
+	print("find_pair_code", find_pair_code);
+	print("v2_digest", ask_v2_digest);
+	print("pair_v2_digest", ask_pair_v2_digest);
+	print("pair_legacy_digest", ask_pair_legacy_digest);
+}
+
 /* One install of each form. */
 static void print_install(void)
 {
@@ -84,10 +98,12 @@ int main(void)
 {
 	make_images();
 	make_loaders();
+	make_older();
 	printf("deepest stack of each call, in bytes:\n");
 	print_image();
 	print_install();
 	print_loader();
+	print_older();
 	printf("deepest of all: %zu, of at most %d\n", deepest, LIMIT);
 	if (deepest > LIMIT)
 		fail("a call takes too much stack");

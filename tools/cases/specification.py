@@ -1,8 +1,8 @@
-"""The check, the digest questions, the trust reading, the writers, the installer and the loader,
-worked out from docs/SPECIFICATION.md alone and from none of the Rattle code. Short rather than fast;
-digests are hashlib's."""
+"""The check, the digest questions, the trust reading, the writers, the installer, the loader and the
+older model, worked out from docs/SPECIFICATION.md alone and from none of the Rattle code. Short
+rather than fast; digests are hashlib's."""
 
-from hashlib import blake2s
+from hashlib import blake2s, sha256
 from typing import NamedTuple
 
 ERASED = b"\xff"
@@ -13,6 +13,10 @@ LARGEST = 2_097_152
 
 def digest(data):
     return blake2s(data).digest()
+
+
+def older_digest(data):
+    return sha256(data).digest()
 
 
 def number_at(data, at):
@@ -31,15 +35,19 @@ def picture_start(n, string_length):
     return end + -end % 4
 
 
-def chunks(v, code):
-    """The sixteen chunks of the code behind a vendor header of v bytes."""
-    first = CHUNK - 1_024 - v
+def first_room(v):
+    """What chunk 1 has room for behind a vendor header of v bytes."""
+    return CHUNK - 1_024 - v
+
+
+def chunks(first, code):
+    """The sixteen chunks of the code. The first has room for so many bytes."""
     starts = [0] + [first + CHUNK * k for k in range(15)]
     return [code[start:start + (CHUNK if start else first)] for start in starts]
 
 
-def hash_of(chunk):
-    return digest(chunk) if chunk else bytes(32)
+def hashes(first, code, digest=digest):
+    return [digest(chunk) if chunk else bytes(32) for chunk in chunks(first, code)]
 
 
 # The check. A step gives the refusal where it fails: number, part and chunk.
@@ -74,8 +82,12 @@ def bad_length(v):
     return v % 512 != 0 or not 512 <= v <= 65_536
 
 
-def bad_code_length(v, length):
-    return length == 0 or length % 4 != 0 or length > LARGEST - 1_024 - v
+def longest_code(v):
+    return LARGEST - 1_024 - v
+
+
+def bad_code_length(most, length):
+    return length == 0 or length % 4 != 0 or length > most
 
 
 def vendor_shape(data):
@@ -99,6 +111,17 @@ def vendor_shape(data):
     return None
 
 
+def fields_shape(header, bad_length, zeros):
+    """S14, S16 and S17: whether codelen is bad, and which bytes behind the hashes must be zero."""
+    if number_at(header, 4) != 1_024:
+        return Refusal(11, 2)
+    if bad_length:
+        return Refusal(12, 2)
+    if any(header[24:32]) or any(header[zeros]):
+        return Refusal(6, 2)
+    return None
+
+
 def firmware_shape(data, v):
     """S12 to S17. S15 cannot fail after S4."""
     header = data[v:v + 1_024]
@@ -106,13 +129,8 @@ def firmware_shape(data, v):
         return Refusal(2, 2)
     if header[:4] != b"TRZF":
         return Refusal(10, 2)
-    if number_at(header, 4) != 1_024:
-        return Refusal(11, 2)
-    if bad_code_length(v, number_at(header, 12)):
-        return Refusal(12, 2)
-    if any(header[24:32]) or any(header[544:959]):
-        return Refusal(6, 2)
-    return None
+    bad_length = bad_code_length(longest_code(v), number_at(header, 12))
+    return fields_shape(header, bad_length, slice(544, 959))
 
 
 def signed(expiry, time, mask, m, n, verdict, part):
@@ -141,23 +159,31 @@ def headers(data, given):
                       given.firmware, 2))
 
 
+def check_code(data, at, later, first, digest=digest):
+    """S21 to S23 on the code behind a header at this place: what may follow it, the room of chunk 1
+    and the hash."""
+    header = data[at:at + 1_024]
+    end = at + 1_024 + number_at(header, 12)
+    if len(data) < end:
+        return Refusal(2, 3)
+    if data[end:].strip(later):
+        return Refusal(13, 3)
+    code = data[at + 1_024:end]
+    for k, (chunk, right) in enumerate(zip(chunks(first, code), hashes(first, code, digest))):
+        if header[32 + 32 * k:64 + 32 * k] != right:
+            return Refusal(14 if chunk else 15, 3, k + 1)
+    return None
+
+
+def accepted(v, header):
+    return Accepted(v, number_at(header, 12), header[16:20], header[20:24])
+
+
 def check(data, given, slot):
     """S1 to S23 on the bytes of a file or of a slot."""
-    refusal = headers(data, given)
-    if refusal:
-        return refusal
     v = number_at(data, 4)
-    header = data[v:v + 1_024]
-    length = number_at(header, 12)
-    code, tail = data[v + 1_024:v + 1_024 + length], data[v + 1_024 + length:]
-    if len(code) < length:
-        return Refusal(2, 3)
-    if tail.strip(ERASED) if slot else tail:
-        return Refusal(13, 3)
-    for k, chunk in enumerate(chunks(v, code)):
-        if header[32 + 32 * k:64 + 32 * k] != hash_of(chunk):
-            return Refusal(14 if chunk else 15, 3, k + 1)
-    return Accepted(v, length, header[16:20], header[20:24])
+    return (headers(data, given) or check_code(data, v, ERASED if slot else b"", first_room(v))
+            or accepted(v, data[v:]))
 
 
 def parts(data, answer):
@@ -220,15 +246,14 @@ def vendor_header(numbers, m, n, trust_bits, keys, string, picture, room):
 def firmware_header(numbers, v, code, room):
     if bad_length(v):
         return 3
-    if bad_code_length(v, len(code)):
+    if bad_code_length(longest_code(v), len(code)):
         return 12
     if room < 1_024:
         return 21
     head = (b"TRZF" + bytes_of(1_024) + bytes_of(numbers.expiry) + bytes_of(len(code))
             + numbers.versions)
-    hashes = b"".join(map(hash_of, chunks(v, code)))
-    return ((head.ljust(32, b"\0") + hashes).ljust(959, b"\0") + bytes([numbers.mask])
-            + numbers.sig)
+    head = head.ljust(32, b"\0") + b"".join(hashes(first_room(v), code))
+    return head.ljust(959, b"\0") + bytes([numbers.mask]) + numbers.sig
 
 
 # The installer. A call gives the record and what it answers, and may change the slot.
@@ -338,18 +363,15 @@ class AreaInputs(NamedTuple):
     internal: bool
 
 
+LONGEST_LOADER = 130_048
+
+
 def loader_shape(data):
     """Fewer than 1,024 bytes, S14, S16 and S17."""
     if len(data) < 1_024:
         return Refusal(2, 2)
-    if number_at(data, 4) != 1_024:
-        return Refusal(11, 2)
-    length = number_at(data, 12)
-    if length % 4 != 0 or not 4 <= length <= 130_048:
-        return Refusal(12, 2)
-    if any(data[24:32]) or any(data[544:959]):
-        return Refusal(6, 2)
-    return None
+    bad_length = bad_code_length(LONGEST_LOADER, number_at(data, 12))
+    return fields_shape(data, bad_length, slice(544, 959))
 
 
 def check_area(data, given, verdict, later):
@@ -358,30 +380,17 @@ def check_area(data, given, verdict, later):
         return Refusal(1, 2)
     if bad_keys(given.m, given.n):
         return Refusal(16, 0)
-    refusal = loader_shape(data) or signed(number_at(data, 8), given.time, data[959], given.m,
-                                           given.n, verdict, 2)
-    if refusal:
-        return refusal
-    length = number_at(data, 12)
-    code, tail = data[1_024:1_024 + length], data[1_024 + length:]
-    if len(code) < length:
-        return Refusal(2, 3)
-    if any(x != later for x in tail):
-        return Refusal(13, 3)
-    if data[32:64] != digest(code):
-        return Refusal(14, 3, 1)
-    for k in range(2, 17):
-        if any(data[32 * k:32 * k + 32]):
-            return Refusal(15, 3, k)
-    return Accepted(0, length, data[16:20], data[20:24])
+    return (loader_shape(data)
+            or signed(number_at(data, 8), given.time, data[959], given.m, given.n, verdict, 2)
+            or check_code(data, 0, later, LONGEST_LOADER) or accepted(0, data))
 
 
 def check_card(data, given):
-    return check_area(data, given, given.card, 0)
+    return check_area(data, given, given.card, b"\0")
 
 
 def check_internal(data, given):
-    return check_area(data, given, given.internal, 255)
+    return check_area(data, given, given.internal, ERASED)
 
 
 def loader_code(data, answer):
@@ -405,3 +414,105 @@ def choose(card, internal, given):
     if isinstance(answer, Accepted):
         return "internal", internal[:1_024 + answer.codelen]
     return answer, b""
+
+
+# The older model: a V2 header and code at 0, or behind a legacy header. The V2 header is laid out like
+# the firmware header up to its hashes. All digests are SHA-256.
+
+LEGACY = 256
+OLDER_ROOM = CHUNK - 1_024 - LEGACY
+LONGEST_OLDER = LARGEST - 1_024 - LEGACY
+
+
+class OlderInputs(NamedTuple):
+    """The time, the number of keys in the key sheet, and three verdicts for each header."""
+    time: int
+    sheet: int
+    legacy: tuple
+    v2: tuple
+
+
+def legacy_shape(data):
+    """The steps of the legacy header through its zero bytes."""
+    if data[:4] != b"TRZR":
+        return Refusal(1, 1)
+    if len(data) < LEGACY:
+        return Refusal(2, 1)
+    length = number_at(data, 4)
+    if length % 4 != 0 or not 1_028 <= length <= 2_096_896:
+        return Refusal(12, 1)
+    if any(data[11:64]):
+        return Refusal(6, 1)
+    return None
+
+
+def v2_shape(data, at):
+    """The steps of the V2 header at this place through its zero bytes. Behind a legacy header its
+    codelen is exactly 1,024 less than that one's."""
+    header = data[at:at + 1_024]
+    if header[:4] != b"TRZF":
+        return Refusal(10, 2)
+    if len(header) < 1_024:
+        return Refusal(2, 2)
+    length = number_at(header, 12)
+    bad_length = (bad_code_length(LONGEST_OLDER, length)
+                  or at and length != number_at(data, 4) - 1_024)
+    return fields_shape(header, bad_length, slice(0x2E3, 0x400))
+
+
+def older_signed(indexes, sheet, verdicts, part):
+    """Indexes count from 1, lie in the sheet and are distinct. All verdicts are yes."""
+    if any(not 1 <= index <= sheet for index in indexes) or len(set(indexes)) < 3:
+        return Refusal(8, part)
+    if not all(verdicts):
+        return Refusal(9, part)
+    return None
+
+
+def older_v2(data, at, given):
+    """All steps of the V2 header at this place."""
+    refusal = v2_shape(data, at)
+    if refusal:
+        return refusal
+    expiry = number_at(data, at + 8)
+    if expiry != 0 and given.time > expiry:
+        return Refusal(7, 2)
+    return older_signed(data[at + 0x2E0:at + 0x2E3], given.sheet, given.v2, 2)
+
+
+def older_legacy(data, given):
+    """All steps of the legacy header."""
+    return legacy_shape(data) or older_signed(data[8:11], given.sheet, given.legacy, 1)
+
+
+def check_older(data, given, pair, slot):
+    """All steps on the bytes of a file or of a slot, which hold the pair or the V2 header alone."""
+    if not 3 <= given.sheet <= 255:
+        return Refusal(16, 0)
+    at = LEGACY if pair else 0
+    return ((older_legacy(data, given) if pair else None) or older_v2(data, at, given)
+            or check_code(data, at, ERASED if slot else b"", OLDER_ROOM, older_digest)
+            or accepted(0, data[at:]))
+
+
+def older_code(data, answer, pair):
+    """The code, empty after a refusal."""
+    start = (LEGACY if pair else 0) + 1_024
+    return b"" if isinstance(answer, Refusal) else data[start:start + answer.codelen]
+
+
+def v2_question(data, pair):
+    """The digest to be signed of the V2 header, or the refusal in its place."""
+    at = LEGACY if pair else 0
+    signed_bytes = data[at:at + 0x220] + bytes(195) + data[at + 0x2E3:at + 0x400]
+    return ((legacy_shape(data) if pair else None) or v2_shape(data, at)
+            or older_digest(signed_bytes))
+
+
+def legacy_question(data):
+    """The digest to be signed of the legacy header: of the codelen bytes behind it."""
+    refusal = legacy_shape(data)
+    if refusal:
+        return refusal
+    end = LEGACY + number_at(data, 4)
+    return Refusal(2, 3) if len(data) < end else older_digest(data[LEGACY:end])

@@ -25,6 +25,12 @@ mod faults;
 mod landed;
 #[path = "../../host/tests/differential/moment.rs"]
 mod moment;
+#[path = "../../host/tests/differential/older_compare.rs"]
+mod older_compare;
+#[path = "../../host/tests/differential/older_draft.rs"]
+mod older_draft;
+#[path = "../../host/tests/differential/older_faults.rs"]
+mod older_faults;
 #[path = "../../host/tests/differential/tally.rs"]
 mod tally;
 #[path = "../../host/tests/differential/written.rs"]
@@ -42,6 +48,7 @@ mod check;
 mod input;
 mod loaders;
 mod mutate;
+mod older;
 mod records;
 mod writers;
 
@@ -96,4 +103,9 @@ unsafe extern "C" fn fuzz_writers(bytes: *const u8, length: usize) {
 #[no_mangle]
 unsafe extern "C" fn fuzz_loaders(bytes: *const u8, length: usize) {
     give(bytes, length, loaders::target);
+}
+
+#[no_mangle]
+unsafe extern "C" fn fuzz_older(bytes: *const u8, length: usize) {
+    give(bytes, length, older::target);
 }

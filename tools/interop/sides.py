@@ -179,10 +179,10 @@ def chip(file):
             is_signed(ask(firmware_digest, file), firmware_seal, m, keys))
 
 
-def check(call, data, time, verdicts, kind=Inputs):
+def check(call, data, time, verdicts, kind=Inputs, policy=POLICY):
     """The answer, and what an acceptance tells: v, code length, version and fix version."""
     answer, image = Answer(), Image()
-    number = call(data, len(data), kind(time, *POLICY, *verdicts), answer, image)
+    number = call(data, len(data), kind(time, *policy, *verdicts), answer, image)
     if number != answer.number:
         raise Differs(f"{call.__name__} returns {number} and answers {answer.number}")
     if number:

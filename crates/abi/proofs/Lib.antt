@@ -1,3 +1,4 @@
 -- The laws that the proofs of abi cite.
 pub mod Numbers
 pub mod Told
+pub mod OlderWords

@@ -98,6 +98,8 @@ words-tell-the-answer =
       passed = refl;
       refused = λ r. refl;
       outcomeNumber = outcome-number;
+      digest = λ d old. refl;
+      digestKept = λ r d old. refl;
       told = λ i old. refl;
       kept = λ r old. refl;
     }

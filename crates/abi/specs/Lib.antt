@@ -4,4 +4,5 @@ pub mod Answers
 pub mod Places
 pub mod Headers
 pub mod Loaders
+pub mod Older
 pub mod Theorems

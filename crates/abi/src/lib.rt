@@ -8,6 +8,7 @@ pub mod headers;
 pub mod inputs;
 pub mod loaders;
 pub mod number;
+pub mod older;
 pub mod places;
 pub mod theorems;
 pub mod trust;

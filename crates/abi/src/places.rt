@@ -18,7 +18,7 @@ fn within(n: usize, x: usize) -> usize
 }
 
 // Where a span stands in n bytes: its start and its length, neither past the bytes.
-fn placed(n: usize, span: Span) -> [usize; 2]
+pub fn placed(n: usize, span: Span) -> [usize; 2]
     ensures { λ r. ⌜ r ≡ placed n span ⌝ }
 {
     let start = within(n, span.from);

@@ -4,7 +4,6 @@ use case_rows::build;
 use case_rows::rows;
 use case_rows::rows::number;
 use case_rows::show;
-use header::Outcome;
 use loader::AreaInputs;
 use loader::choice::Choice;
 use octets::part;
@@ -35,17 +34,14 @@ fn question(bytes: &[u8]) {
     let reply = loader::loader_digest(bytes);
     let outcome = reply.outcome;
     let digest = reply.digest;
-    match outcome {
-        Outcome::Pass => show::bytes(rows::BYTE, &digest),
-        Outcome::Refused(r) => show::refusal(r),
-    }
+    show::question(outcome, digest);
 }
 
 // A row of one area. The bytes behind the loader are 0 on a card, otherwise 255.
 fn one(kind: usize, row: &[u8], codelen: u32, lent: usize, b: &mut [u8]) {
     let x: u8 = if kind == rows::CARD { 0 } else { 255 };
     build::area(row, codelen, lent, x, b);
-    build::edit(row, 0, b);
+    build::edit(row, build::behind(0), b);
     if kind == rows::QUESTION {
         question(part(b, 0, lent));
     } else {
@@ -74,7 +70,7 @@ fn choose(row: &[u8], codelen: u32, lent: usize, card: &mut [u8], internal: &mut
     let longer = rows::narrow(4 + codelen as usize);
     let all = 1088 + longer as usize;
     build::area(row, codelen, lent, 0, card);
-    build::edit_one(row, 0, card);
+    build::edit_one(row, build::behind(0), card);
     build::area(row, longer, all, 255, internal);
     build::edit_byte(row, rows::AND, internal);
     chosen(row, part(card, 0, lent), part(internal, 0, all));

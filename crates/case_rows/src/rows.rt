@@ -7,12 +7,13 @@ use octets::part;
 use std::num::wrapping_add_usize;
 
 // All words. A word is told by its place here.
-pub const WORDS: [u8; 435] =
+pub const WORDS: [u8; 522] =
     *b"file slot parts digests trust roundtrip vendor firmware begin record install \
 crossed v m keys string code hashed word byte and nothing lent time policy verdicts keybytes picture \
 room phase pages taken operations piece dirty by erase fill close ask accepted version fix refused part \
 chunk header output same other seconds red click secret begun erased took Done first held kept calls \
-between card internal question choose loader unknown";
+between card internal question choose loader v2file v2slot v2question pairfile pairslot pairquestion \
+legacyquestion sheet legacy v2 unknown";
 
 pub const FILE: usize = 0;
 
@@ -150,7 +151,27 @@ pub const CHOOSE: usize = 66;
 
 pub const LOADER: usize = 67;
 
-pub const UNKNOWN: usize = 68;
+pub const V2FILE: usize = 68;
+
+pub const V2SLOT: usize = 69;
+
+pub const V2QUESTION: usize = 70;
+
+pub const PAIRFILE: usize = 71;
+
+pub const PAIRSLOT: usize = 72;
+
+pub const PAIRQUESTION: usize = 73;
+
+pub const LEGACYQUESTION: usize = 74;
+
+pub const SHEET: usize = 75;
+
+pub const LEGACY: usize = 76;
+
+pub const V2: usize = 77;
+
+pub const UNKNOWN: usize = 78;
 
 // Whether an item of a list starts at a place, where items have x between them.
 pub fn starts(list: &[u8], at: usize, x: u8) -> bool {

@@ -1,5 +1,6 @@
 // What the program writes: words and numbers, each with a space before it.
 use crate::rows;
+use header::Outcome;
 use header::Refusal;
 use image::Answer;
 use image::Image;
@@ -52,6 +53,14 @@ pub fn refusal(r: Refusal) {
     number(rows::REFUSED, r.number as usize);
     number(rows::PART, r.part as usize);
     number(rows::CHUNK, r.chunk as usize);
+}
+
+// The digest to be signed, or the refusal in its place.
+pub fn question(outcome: Outcome, digest: [u8; 32]) {
+    match outcome {
+        Outcome::Pass => bytes(rows::BYTE, &digest),
+        Outcome::Refused(r) => refusal(r),
+    }
 }
 
 fn dotted(x: u8) {

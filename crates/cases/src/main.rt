@@ -19,6 +19,7 @@ fn answer(kind: usize, row: &[u8], image: &mut [u8], b: &mut [u8]) {
         rows::RECORD => records::record(row, image, b),
         rows::INSTALL..=rows::CROSSED => installs::install(kind, row, image, b),
         rows::CARD..=rows::CHOOSE => case_loaders::answer(kind, row, image, b),
+        rows::V2FILE..=rows::LEGACYQUESTION => case_older::answer(kind, row, b),
         _ => show::word(rows::UNKNOWN),
     }
 }

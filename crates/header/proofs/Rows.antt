@@ -8,7 +8,7 @@ use native.Mathlib.Omega.{arith}
 use Rattle.header.specs.declared.Refusal.{Refusal}
 use Rattle.header.specs.declared.Outcome.{Outcome}
 use Rattle.header.specs.declared.Outcome.the-variants.{Pass, Refused}
-use Rattle.header.specs.Table.{Row, row, firstFailing, extentRowsAt}
+use Rattle.header.specs.Table.{Row, row, firstFailing, orElse, extentRowsAt}
 
 -- ---- a function that goes by the rows of a table
 
@@ -36,11 +36,6 @@ unfolding firstFailing
 ends = refl
 
 -- ---- a group of rows before others
-
--- an outcome, and where it is Pass the next
-abbrev pub orElse : Outcome → Outcome → Outcome
-orElse Pass o = o
-orElse (Refused r) o = Refused r
 
 pub first-append : (rows more : List Row) → firstFailing (rows ++ more) ≡ orElse (firstFailing rows) (firstFailing more)
 unfolding firstFailing

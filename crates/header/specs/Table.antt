@@ -28,6 +28,11 @@ firstFailing [] = Pass
 firstFailing (row true r ∷ rows) = Refused r
 firstFailing (row false r ∷ rows) = firstFailing rows
 
+-- an outcome, and where it is Pass the next
+abbrev pub orElse : Outcome → Outcome → Outcome
+orElse Pass o = o
+orElse (Refused r) o = Refused r
+
 -- S3 to S8
 unfoldable pub vendorShape : List ℕ → List Row
 vendorShape b =

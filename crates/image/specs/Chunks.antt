@@ -8,10 +8,19 @@ use mathlib.Core.Bool.{not}
 use lib.ListN.{getD, replicate}
 use Rattle.octets.specs.Read.{between, spanOf, bytesAt, same}
 use Rattle.blake2s.specs.Rfc7693.{blake2sOf}
+use Rattle.sha256.specs.Fips180.{sha256Of}
 use Rattle.header.specs.Layout.{vendorLen, firstRoom}
 use Rattle.header.specs.Table.{Row, row}
 use Rattle.header.specs.declared.Refusal.{Refusal}
+use Rattle.image.specs.declared.chunks.Hash.{Hash}
+use Rattle.image.specs.declared.chunks.Hash.the-variants.{Blake2s, Sha256}
 use Rattle.image.specs.Areas.{codeSpanAt}
+
+-- ---- the digest of a family of images
+
+abbrev pub digestBy : Hash → List ℕ → List ℕ
+digestBy Blake2s = blake2sOf
+digestBy Sha256 = sha256Of
 
 -- ---- chunks of the code, by the room that chunk 1 has
 

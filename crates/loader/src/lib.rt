@@ -22,6 +22,7 @@ use image::Answer;
 use image::accepted_part;
 use image::answer_at;
 use image::areas::code_span_at;
+use image::chunks::Hash;
 use image::chunks::chunk_rows_at;
 use signing::Digest;
 ghost use mathlib.Core.Path.{_≡_};
@@ -94,7 +95,7 @@ fn extent_rows(tail: u8, b: &[u8]) -> Outcome
 fn hash_rows(b: &[u8]) -> Outcome
     ensures { λ r. ⌜ r ≡ firstFailing (hashRows (now (b .entry))) ⌝ }
 {
-    chunk_rows_at(b, 0, 130048)
+    chunk_rows_at(Hash::Blake2s, b, 0, 130048)
 }
 
 // All steps, where the later bytes must be tail.

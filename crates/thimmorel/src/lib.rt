@@ -7,12 +7,14 @@ mod digests;
 mod filling;
 mod install;
 mod loaders;
+mod older;
 mod places;
 mod plans;
 mod writers;
 
 ghost use mathlib.Core.Path.{_≡_};
 ghost use Rattle.blake2s.specs.Rfc7693.{blake2sOf};
+ghost use Rattle.sha256.specs.Fips180.{sha256Of};
 
 // The BLAKE2s digest of the bytes.
 #[no_mangle]
@@ -20,5 +22,14 @@ pub extern "C" fn thimmorel_digest(bytes: &[u8], digest: &mut [u8; 32])
     ensures { λ r. ⌜ now (digest .exit) ≡ blake2sOf (now (bytes .entry)) ⌝ }
 {
     let d = blake2s::blake2s(bytes);
+    *digest = d;
+}
+
+// The SHA-256 digest of the bytes.
+#[no_mangle]
+pub extern "C" fn thimmorel_sha256(bytes: &[u8], digest: &mut [u8; 32])
+    ensures { λ r. ⌜ now (digest .exit) ≡ sha256Of (now (bytes .entry)) ⌝ }
+{
+    let d = sha256::sha256(bytes);
     *digest = d;
 }

@@ -1,7 +1,13 @@
-// Writes BLAKE2s digests in hexadecimal, one labelled line each: "abc" (RFC 7693, appendix B), the
-// empty string, and the inputs of the self-test of appendix E. The appendix also takes keys and
-// shorter digests. This library has neither, so the last line is the digest of the six digests
-// of 32 bytes without a key. The file `stdout` was compared with Python's hashlib.
+// Writes digests in hexadecimal, one labelled line each. The file `stdout` was compared with Python's
+// hashlib.
+//
+// BLAKE2s: "abc" (RFC 7693, appendix B), the empty string, and the inputs of the self-test of appendix
+// E. The appendix also takes keys and shorter digests. This library has neither, so the last line is
+// the digest of the six digests of 32 bytes without a key.
+//
+// SHA-256: NIST's examples for FIPS 180-4, of one block, of two blocks, and the additional ones; the
+// empty string, and one million letters a. NIST's last three examples are left out: they have
+// 536,870,912 bytes and more.
 use libc::STDOUT_FILENO;
 use std::num::wrapping_add_u32;
 ghost use Prim.Native.Nat.{_+_, _≤_};
@@ -22,6 +28,26 @@ fn print_digest(digest: [u8; 32]) {
 fn print_vector(label: &[u8], bytes: &[u8]) {
     io::write_all(STDOUT_FILENO, label);
     print_digest(blake2s::blake2s(bytes));
+}
+
+fn print_sha256(label: &[u8], bytes: &[u8]) {
+    io::write_all(STDOUT_FILENO, b"sha256 ");
+    io::write_all(STDOUT_FILENO, label);
+    print_digest(sha256::sha256(bytes));
+}
+
+// The line of the first bytes, which are all x: `sha256 LENGTH of X DIGEST`.
+fn print_repeated(bytes: &[u8], length: usize, x: u8) {
+    if bytes.len() < length {
+        return;
+    }
+    let from: usize = 0;
+    io::write_all(STDOUT_FILENO, b"sha256 ");
+    io::print_decimal(STDOUT_FILENO, length as u64);
+    io::write_all(STDOUT_FILENO, b" of ");
+    io::print_decimal(STDOUT_FILENO, wide(x));
+    io::write_all(STDOUT_FILENO, b" ");
+    print_digest(sha256::sha256(&bytes[from..length]));
 }
 
 // The appendix starts from this prime, times the length, modulo 2^32.
@@ -99,8 +125,39 @@ fn self_test() {
     print_all(&all);
 }
 
+fn sha256_messages() {
+    print_sha256(b"abc ", b"abc");
+    print_sha256(
+        b"abcd.. ",
+        b"abcdbcdecdefdefgefghfghighijhijkijkljklmklmnlmnomnopnopq",
+    );
+    print_sha256(b"empty ", b"");
+    print_sha256(b"bd ", b"\xBD");
+    print_sha256(b"c98c8e55 ", b"\xC9\x8C\x8E\x55");
+}
+
+// So many bytes x.
+fn repeated(length: usize, x: u8) {
+    let bytes = [x; 1000000];
+    print_repeated(&bytes, length, x);
+}
+
+fn sha256_repeated() {
+    repeated(55, 0);
+    repeated(56, 0);
+    repeated(57, 0);
+    repeated(64, 0);
+    repeated(1000, 0);
+    repeated(1000, 0x41);
+    repeated(1005, 0x55);
+    repeated(1000000, 0);
+    repeated(1000000, b'a');
+}
+
 fn main() {
     print_vector(b"abc ", b"abc");
     print_vector(b"empty ", b"");
     self_test();
+    sha256_messages();
+    sha256_repeated();
 }

@@ -13,6 +13,7 @@ use header::steps::keys_impossible;
 use header::steps::length_impossible;
 use header::table::refuse;
 use image::Version;
+use image::chunks::Hash;
 use image::chunks::hash_of;
 use image::chunks::room_of;
 use octets::part;
@@ -216,7 +217,7 @@ fn hashes_of(first: usize, code: &[u8]) -> [[u8; 32]; 16]
     let mut k: usize = 0;
     while k < 16 {
         let next = at + room_of(first, k);
-        let h = hash_of(part(code, at, next));
+        let h = hash_of(Hash::Blake2s, part(code, at, next));
         t[k] = h;
         at = next;
         k += 1;

@@ -32,6 +32,20 @@ pub struct LoaderInputs {
     pub internal_verdict: u32,
 }
 
+/// What a check of the older model is given besides the bytes.
+#[repr(C)]
+#[derive(Clone, Copy, Debug, Default, PartialEq, Eq)]
+pub struct OlderInputs {
+    /// The current time.
+    pub time: u32,
+    /// How many keys the key sheet has.
+    pub keys: u32,
+    /// For each signature of the legacy header: 1 is yes, any other word no.
+    pub legacy_verdicts: [u32; 3],
+    /// Likewise for the V2 header.
+    pub v2_verdicts: [u32; 3],
+}
+
 /// The answer of a check, of a digest question or of a choice.
 #[repr(C)]
 #[derive(Clone, Copy, Debug, Default, PartialEq, Eq)]
@@ -48,7 +62,7 @@ pub struct Answer {
 #[repr(C)]
 #[derive(Clone, Copy, Debug, Default, PartialEq, Eq)]
 pub struct Image {
-    /// The length v of the vendor header. It is 0 for a loader.
+    /// The length v of the vendor header. It is 0 for a loader and for the older model.
     pub vendor_length: u32,
     /// The length of the code.
     pub code_length: u32,

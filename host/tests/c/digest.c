@@ -1,8 +1,8 @@
 /*
- * All calls but the installer's and the loaders' from C: "abc", whose digest RFC 7693 prints in
- * appendix B, and no bytes at all; the writers; the digests that signatures sign, and what else a
- * chip needs; the file check, and what is told of an image. The exit status is 0 if each call
- * answers as it should. It is also valid C++.
+ * All calls but the installer's, the loaders' and the older model's from C: "abc", whose digest RFC
+ * 7693 prints in appendix B, and no bytes at all; the writers; the digests that signatures sign, and
+ * what else a chip needs; the file check, and what is told of an image. The exit status is 0 if each
+ * call answers as it should. It is also valid C++.
  */
 
 #include "writers.h"

@@ -52,6 +52,7 @@ static inline int tells(const struct thimmorel_answer *answer, uint32_t number, 
 
 EXPECT_SIZE(inputs, 20);
 EXPECT_SIZE(loader_inputs, 20);
+EXPECT_SIZE(older_inputs, 32);
 EXPECT_SIZE(answer, 12);
 EXPECT_SIZE(image, 16);
 EXPECT_SIZE(span, 16);

@@ -1,5 +1,5 @@
 /*
- * The digest at the edges of memory: bytes that begin where a page begins, and bytes that end where
+ * The digests at the edges of memory: bytes that begin where a page begins, and bytes that end where
  * one ends. The pages before and behind may not be read, so that a byte read before the former or
  * behind the latter ends the program by a signal. The exit status is 0 if each digest is that of
  * the same bytes in the middle of a buffer. It is also valid C++.
@@ -28,14 +28,22 @@ static uint8_t *alone(size_t size)
 	return page;
 }
 
-static void expect_same_digest(uint8_t *at, size_t length)
+typedef void digest_call(const uint8_t *bytes, uint64_t length, uint8_t digest[32]);
+
+static void expect_same_digest(digest_call *digest_of, const uint8_t *at, size_t length)
 {
 	uint8_t digest[32], expected[32];
 
-	memcpy(at, message + INSIDE, length);
-	thimmorel_digest(at, length, digest);
-	thimmorel_digest(message + INSIDE, length, expected);
+	digest_of(at, length, digest);
+	digest_of(message + INSIDE, length, expected);
 	EXPECT(IS_SAME(digest, expected));
+}
+
+static void expect_same_digests(uint8_t *at, size_t length)
+{
+	memcpy(at, message + INSIDE, length);
+	expect_same_digest(thimmorel_digest, at, length);
+	expect_same_digest(thimmorel_sha256, at, length);
 }
 
 int main(void)
@@ -47,8 +55,8 @@ int main(void)
 	for (i = 0; i < sizeof message; i++)
 		message[i] = (uint8_t)(i * 2654435761u >> 24);
 	for (i = 0; i <= LONGEST; i++) {
-		expect_same_digest(page, i);
-		expect_same_digest(page + size - i, i);
+		expect_same_digests(page, i);
+		expect_same_digests(page + size - i, i);
 	}
 	return EXIT_SUCCESS;
 }

@@ -1,4 +1,4 @@
-//! BLAKE2s by Python's hashlib. One process of `python3` serves many messages: digests.py, beside
+//! Digests by Python's hashlib. One process of `python3` serves many messages: digests.py, beside
 //! this file, says how they are sent.
 
 use std::io::{self, BufWriter, Write};
@@ -15,11 +15,11 @@ fn send(messages: &[&[u8]], input: ChildStdin) -> io::Result<()> {
     input.flush()
 }
 
-/// The digest of each message, in order. The program writes only after its input has ended, so
-/// the two processes never wait for each other.
-pub fn digests(messages: &[&[u8]]) -> Vec<[u8; 32]> {
+/// The digest of each message, in order, by the hash function that has this name in hashlib. The
+/// program writes only after its input has ended, so the two processes never wait for each other.
+pub fn digests(hash: &str, messages: &[&[u8]]) -> Vec<[u8; 32]> {
     let mut python = Command::new("python3")
-        .arg(PROGRAM)
+        .args([PROGRAM, hash])
         .stdin(Stdio::piped())
         .stdout(Stdio::piped())
         .spawn()

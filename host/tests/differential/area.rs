@@ -2,7 +2,7 @@
 //! apart, so that a fault can be put into one of them.
 
 use crate::common::random::Random;
-use crate::draft::{any_inputs, expiry, good_mask, inputs, sig};
+use crate::draft::{any_inputs, expiry, good_mask, header_up_to_hashes, inputs, sig};
 use crate::model::blake2s::blake2s;
 use crate::model::image;
 use crate::model::loader::{Area, Inputs};
@@ -101,15 +101,8 @@ pub fn any_loader_inputs(random: &mut Random) -> Inputs {
 
 /// The header for this code. Its length in the header is the code's, whatever that is.
 fn header(code: &[u8], inputs: &Inputs, random: &mut Random) -> Vec<u8> {
-    let mut header = b"TRZB".to_vec();
-    header.extend(1_024_u32.to_le_bytes());
-    header.extend(expiry(inputs.time, random).to_le_bytes());
-    header.extend((code.len() as u32).to_le_bytes());
-    header.extend(random.word().to_le_bytes()); // version
-    header.extend(random.word().to_le_bytes()); // fix version
-    header.extend([0; 8]);
-    header.extend(blake2s(code)); // hash 1
-    header.extend([0; 15 * 32]);
+    let expiry = expiry(inputs.time, random);
+    let mut header = header_up_to_hashes(b"TRZB", expiry, code.len(), &[blake2s(code)], random);
     header.extend([0; 415]);
     header.push(good_mask(inputs.m, inputs.n, random));
     header.extend(sig(random));

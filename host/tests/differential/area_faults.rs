@@ -5,7 +5,8 @@ use crate::area::{filler, verdict, AreaDraft, LONGEST_CODE};
 use crate::common::random::Random;
 use crate::draft::no;
 use crate::faults::{
-    bad_mask, change, impossible_policy, late, put, spoil_length, spoil_unused_hash, spoil_zeros,
+    bad_mask, change, impossible_code_length, impossible_policy, late, put, spoil_length,
+    spoil_unused_hash, spoil_used_hash, spoil_zeros, FIRMWARE_ZEROS,
 };
 use crate::tally::LOADER_STEPS;
 
@@ -42,29 +43,14 @@ fn s14(draft: &mut AreaDraft, random: &mut Random) {
 }
 
 fn s16(draft: &mut AreaDraft, random: &mut Random) {
-    let longest = LONGEST_CODE as u32;
-    let no_multiple = random.word() | (1 + random.up_to(2) as u32);
-    let too_long = longest + 4 + 4 * random.up_to(1_000_000) as u32;
-    let impossible = [
-        0,
-        1,
-        2,
-        3,
-        6,
-        longest + 1,
-        longest + 4,
-        131_072,
-        2_096_128, // what sixteen chunks hold
-        u32::MAX - 3,
-        u32::MAX,
-        no_multiple,
-        too_long,
-    ];
+    let impossible = impossible_code_length(LONGEST_CODE as u32, random);
+    let sixteen_chunks = 2_096_128;
+    let impossible = [impossible, impossible, 131_072, sixteen_chunks];
     put(&mut draft.header, 12, random.pick(&impossible));
 }
 
 fn s17(draft: &mut AreaDraft, random: &mut Random) {
-    spoil_zeros(&mut draft.header, random);
+    spoil_zeros(&mut draft.header, FIRMWARE_ZEROS, random);
 }
 
 fn s18(draft: &mut AreaDraft, random: &mut Random) {
@@ -104,13 +90,8 @@ fn s22(draft: &mut AreaDraft, random: &mut Random) {
     }
 }
 
-/// A byte of the code, or of hash 1.
 fn s23_used(draft: &mut AreaDraft, random: &mut Random) {
-    let last = draft.code.len() - 1;
-    match random.one_in(3) {
-        true => change(&mut draft.header[32 + random.up_to(31)], random),
-        false => change(&mut draft.code[random.up_to(last)], random),
-    }
+    spoil_used_hash(&mut draft.header, &mut draft.code, random);
 }
 
 fn s23_unused(draft: &mut AreaDraft, random: &mut Random) {

@@ -3,7 +3,7 @@
 
 use crate::archive::image as archive;
 use crate::common::random::Random;
-use crate::draft::{any_inputs, likely_mask, Draft};
+use crate::draft::{any_inputs, lent_at_odd_place, likely_mask, Draft};
 use crate::faults::spoil;
 use crate::model::image::{check, Form, Inputs};
 use crate::tally::{cases, step, Tally, ACCEPTED, STEPS};
@@ -25,11 +25,9 @@ pub fn compare(form: Form, bytes: &[u8], inputs: &Inputs) -> &'static str {
 
 /// The same for a draft, whose bytes stand at an odd place and stay as they are.
 pub fn compare_draft(form: Form, draft: &Draft) -> &'static str {
-    let memory = [&[0x5a; 5], &draft.bytes()[..]].concat();
-    let lent = memory.clone();
-    let row = compare(form, &lent[5..][..draft.length()], &draft.inputs);
-    assert!(lent == memory, "a check wrote to the bytes it was lent");
-    row
+    lent_at_odd_place(&draft.bytes(), draft.length(), |lent| {
+        compare(form, lent, &draft.inputs)
+    })
 }
 
 /// Random bytes, of which most are given some of the fields that let a check go on.

@@ -3,6 +3,7 @@
 
 use crate::checks::{compare, compare_draft};
 use crate::common::random::Random;
+use crate::damages::with_every_byte_off;
 use crate::draft::Draft;
 use crate::model::image::Form;
 use crate::tally::{cases, Tally, ACCEPTED};
@@ -14,15 +15,9 @@ fn every_byte_of_an_image() {
     for form in [Form::File, Form::Slot] {
         for _ in 0..cases(1) {
             let draft = Draft::smallest(form, &mut random);
-            let mut bytes = draft.bytes();
-            for at in 0..bytes.len() {
-                let right = bytes[at];
-                for change in 1..=255 {
-                    bytes[at] = right ^ change;
-                    tally.count(compare(form, &bytes, &draft.inputs));
-                }
-                bytes[at] = right;
-            }
+            with_every_byte_off(&draft.bytes(), |bytes| {
+                tally.count(compare(form, bytes, &draft.inputs));
+            });
         }
     }
     let found = [

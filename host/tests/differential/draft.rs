@@ -96,19 +96,53 @@ impl Draft {
     }
 }
 
+/// Lends the first `length` bytes to a call, at an odd place, and asserts that the call leaves them.
+pub fn lent_at_odd_place<T>(bytes: &[u8], length: usize, call: impl FnOnce(&[u8]) -> T) -> T {
+    let memory = [&[0x5a; 5], bytes].concat();
+    let lent = memory.clone();
+    let answer = call(&lent[5..][..length]);
+    assert!(lent == memory, "a call wrote to the bytes it was lent");
+    answer
+}
+
+/// The first 544 bytes of a header that is laid out as the firmware header: up to the hashes, of
+/// which the first are given and the others are zero. Both versions are drawn.
+pub fn header_up_to_hashes(
+    magic: &[u8; 4],
+    expiry: u32,
+    codelen: usize,
+    hashes: &[[u8; 32]],
+    random: &mut Random,
+) -> Vec<u8> {
+    let mut header = magic.to_vec();
+    header.extend(1_024_u32.to_le_bytes());
+    header.extend(expiry.to_le_bytes());
+    header.extend((codelen as u32).to_le_bytes());
+    header.extend(random.word().to_le_bytes()); // version
+    header.extend(random.word().to_le_bytes()); // fix version
+    header.extend([0; 8]);
+    header.extend(hashes.as_flattened());
+    header.resize(544, 0);
+    header
+}
+
 /// The length of a slot that holds such a file, with up to two pages to spare.
 pub fn slot_length(file_length: usize, random: &mut Random) -> usize {
     file_length.next_multiple_of(4_096) + 4_096 * random.up_to(2)
+}
+
+/// Any time, and often one at an edge.
+pub fn time(random: &mut Random) -> u32 {
+    let any = random.word();
+    random.pick(&[0, 1, 100, u32::MAX - 1, u32::MAX, any])
 }
 
 /// Inputs that a check can accept with.
 pub fn inputs(random: &mut Random) -> Inputs {
     let n = 1 + random.up_to(7) as u32;
     let m = 1 + random.up_to(n as usize - 1) as u32;
-    let any = random.word();
-    let time = random.pick(&[0, 1, 100, u32::MAX - 1, u32::MAX, any]);
     Inputs {
-        time,
+        time: time(random),
         m,
         n,
         vendor: YES,
@@ -161,6 +195,29 @@ pub fn likely_mask(m: u32, n: u32, random: &mut Random) -> u8 {
 pub fn expiry(time: u32, random: &mut Random) -> u32 {
     let later = time + random.up_to((u32::MAX - time) as usize) as u32;
     random.pick(&[0, time, later])
+}
+
+/// Expiries at their edges, each with times at their edges and around it. The last says whether the
+/// header is still good.
+pub fn expiries_and_times() -> Vec<(u32, u32, bool)> {
+    let edges = [
+        0,
+        1,
+        2,
+        100,
+        0x7fff_ffff,
+        0x8000_0000,
+        u32::MAX - 1,
+        u32::MAX,
+    ];
+    let mut all = Vec::new();
+    for expiry in edges {
+        let around = [expiry.wrapping_sub(1), expiry, expiry.wrapping_add(1)];
+        for time in edges.into_iter().chain(around) {
+            all.push((expiry, time, expiry == 0 || time <= expiry));
+        }
+    }
+    all
 }
 
 fn vendor_fields(inputs: &Inputs, random: &mut Random) -> VendorFields {

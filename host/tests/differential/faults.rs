@@ -5,6 +5,7 @@ use crate::common::random::Random;
 use crate::draft::{good_mask, no, Draft};
 use crate::model::image::Form;
 use crate::tally::STEPS;
+use std::ops::Range;
 
 type Fault = fn(&mut Draft, Form, &mut Random);
 
@@ -187,13 +188,10 @@ fn s14(draft: &mut Draft, _: Form, random: &mut Random) {
     spoil_length(&mut draft.firmware, random);
 }
 
-fn largest_code(draft: &Draft) -> u32 {
-    (2_097_152 - 1_024 - draft.v()) as u32
-}
-
-fn s16(draft: &mut Draft, _: Form, random: &mut Random) {
-    let largest = largest_code(draft);
+/// A code length that is 0, not a multiple of 4, or above the largest.
+pub fn impossible_code_length(largest: u32, random: &mut Random) -> u32 {
     let no_multiple = random.word() | (1 + random.up_to(2) as u32);
+    let too_large = largest + 4 + 4 * random.up_to(1_000_000) as u32;
     let impossible = [
         0,
         1,
@@ -205,19 +203,33 @@ fn s16(draft: &mut Draft, _: Form, random: &mut Random) {
         u32::MAX - 3,
         u32::MAX,
         no_multiple,
+        too_large,
     ];
-    put(&mut draft.firmware, 12, random.pick(&impossible));
+    random.pick(&impossible)
 }
 
-/// A byte that must be zero.
-pub fn spoil_zeros(header: &mut [u8], random: &mut Random) {
-    let (before, after) = (24 + random.up_to(7), 544 + random.up_to(414));
-    let at = random.pick(&[24, before, 31, 544, after, 958]);
+fn largest_code(draft: &Draft) -> u32 {
+    (2_097_152 - 1_024 - draft.v()) as u32
+}
+
+fn s16(draft: &mut Draft, _: Form, random: &mut Random) {
+    let impossible = impossible_code_length(largest_code(draft), random);
+    put(&mut draft.firmware, 12, impossible);
+}
+
+/// A byte that must be zero: one from 24 to 31, or one of a second run.
+pub fn spoil_zeros(header: &mut [u8], second: Range<usize>, random: &mut Random) {
+    let (first, last) = (second.start, second.end - 1);
+    let (before, after) = (24 + random.up_to(7), first + random.up_to(last - first));
+    let at = random.pick(&[24, before, 31, first, after, last]);
     change(&mut header[at], random);
 }
 
+/// The second run of zeros of the firmware header and of a loader's.
+pub const FIRMWARE_ZEROS: Range<usize> = 544..959;
+
 fn s17(draft: &mut Draft, _: Form, random: &mut Random) {
-    spoil_zeros(&mut draft.firmware, random);
+    spoil_zeros(&mut draft.firmware, FIRMWARE_ZEROS, random);
 }
 
 /// The vendor header is made to last, since both headers meet the same time.
@@ -245,23 +257,32 @@ fn s21(draft: &mut Draft, _: Form, random: &mut Random) {
     }
 }
 
-/// In a file even erased bytes are too many.
-fn s22(draft: &mut Draft, form: Form, random: &mut Random) {
-    draft.tail = vec![255; 1 + random.up_to(600)];
+/// A tail that must not be there. In a file even erased bytes are too many.
+pub fn wrong_tail(form: Form, random: &mut Random) -> Vec<u8> {
+    let mut tail = vec![255; 1 + random.up_to(600)];
     if form == Form::Slot {
-        let last = draft.tail.len() - 1;
+        let last = tail.len() - 1;
         let any = random.up_to(last);
-        change(&mut draft.tail[random.pick(&[0, last, any])], random);
+        change(&mut tail[random.pick(&[0, last, any])], random);
     }
+    tail
+}
+
+fn s22(draft: &mut Draft, form: Form, random: &mut Random) {
+    draft.tail = wrong_tail(form, random);
 }
 
 /// A byte of the code, or of the hash of chunk 1, which always holds code.
-fn s23_used(draft: &mut Draft, _: Form, random: &mut Random) {
-    let last = draft.code.len() - 1;
+pub fn spoil_used_hash(header: &mut [u8], code: &mut [u8], random: &mut Random) {
+    let last = code.len() - 1;
     match random.one_in(3) {
-        true => change(&mut draft.firmware[32 + random.up_to(31)], random),
-        false => change(&mut draft.code[random.up_to(last)], random),
+        true => change(&mut header[32 + random.up_to(31)], random),
+        false => change(&mut code[random.up_to(last)], random),
     }
+}
+
+fn s23_used(draft: &mut Draft, _: Form, random: &mut Random) {
+    spoil_used_hash(&mut draft.firmware, &mut draft.code, random);
 }
 
 /// A byte of a hash that is all zero. With all sixteen chunks in use there is none.

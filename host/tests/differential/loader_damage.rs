@@ -4,6 +4,7 @@
 use crate::archive::loader as archive;
 use crate::area::{filler, loader_inputs, AreaDraft, AREAS};
 use crate::common::random::Random;
+use crate::damages::{damage, with_every_byte_off};
 use crate::loaders::{compare, in_both};
 use crate::model::loader::{self as model, Area};
 use crate::tally::{cases, Tally, ACCEPTED, LOADER_STEPS};
@@ -23,15 +24,9 @@ fn every_byte_of_an_area() {
     for area in AREAS {
         for _ in 0..cases(1) {
             let draft = smallest(area, &mut random);
-            let mut bytes = draft.bytes();
-            for at in 0..bytes.len() {
-                let right = bytes[at];
-                for change in 1..=255 {
-                    bytes[at] = right ^ change;
-                    tally.count(compare(area, &bytes, &draft.inputs));
-                }
-                bytes[at] = right;
-            }
+            with_every_byte_off(&draft.bytes(), |bytes| {
+                tally.count(compare(area, bytes, &draft.inputs));
+            });
         }
     }
     let found = [
@@ -43,40 +38,8 @@ fn every_byte_of_an_area() {
 /// Where the fields of the header stand, and the code.
 const FIELDS: [usize; 13] = [0, 4, 8, 12, 16, 20, 24, 32, 64, 540, 544, 956, 1_024];
 
-fn edge_values(random: &mut Random) -> u32 {
-    let small = random.up_to(300) as u32;
-    let near = random.pick(&[512, 1_024, 130_048, 131_072, 2_096_128, u32::MAX - 4]);
-    let any = random.word();
-    random.pick(&[0, 1, 4, 8, small, near, near + 4, near - 4, near - 1, any])
-}
-
-/// Sets a field or a byte, cuts the area, or lengthens it.
-fn damage(bytes: &mut Vec<u8>, random: &mut Random) {
-    let field = random.pick(&FIELDS);
-    let any = random.up_to(bytes.len());
-    let at = random.pick(&[field, field, any]);
-    match random.up_to(7) {
-        0 => bytes.truncate(at),
-        1 => {
-            let longer = bytes.len() + random.up_to(40);
-            bytes.resize(longer, random.pick(&[0, 255, 1]));
-        }
-        2 | 3 => put(bytes, at, &edge_values(random).to_le_bytes()),
-        4 => put(bytes, at, &[random.byte()]),
-        _ => {
-            let bit = 1 << random.up_to(7);
-            let changed = bytes.get(at).map_or(0, |byte| byte ^ bit);
-            put(bytes, at, &[changed]);
-        }
-    }
-}
-
-/// Writes what of the value stands within the bytes.
-fn put(bytes: &mut [u8], at: usize, value: &[u8]) {
-    for (byte, new) in bytes.iter_mut().skip(at).zip(value) {
-        *byte = *new;
-    }
-}
+/// Numbers around which a step changes its answer.
+const EDGES: [u32; 6] = [512, 1_024, 130_048, 131_072, 2_096_128, u32::MAX - 4];
 
 #[test]
 fn some_damages() {
@@ -87,7 +50,7 @@ fn some_damages() {
             let draft = AreaDraft::small(area, &mut random);
             let mut bytes = draft.bytes();
             for _ in 0..random.pick(&[1, 1, 2, 4]) {
-                damage(&mut bytes, &mut random);
+                damage(&mut bytes, &FIELDS, &EDGES, &mut random);
             }
             tally.count(compare(area, &bytes, &draft.inputs));
             assert_eq!(archive::digest(&bytes), model::digest(&bytes));

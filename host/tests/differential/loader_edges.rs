@@ -5,11 +5,12 @@ use crate::archive::image as image_archive;
 use crate::archive::loader as archive;
 use crate::area::{filler, loader_inputs, AreaDraft, AREAS, LONGEST_CODE};
 use crate::common::random::Random;
-use crate::draft::Draft;
+use crate::draft::{expiries_and_times, Draft};
 use crate::faults::put;
 use crate::loaders::{compare, compare_draft, in_both};
 use crate::model::blake2s::blake2s;
 use crate::model::image::{Form, Refusal};
+use crate::tails::{self, with_tails};
 use crate::tally::{cases, Tally, ACCEPTED};
 
 /// The code is there and hash 1 is its digest, so that its length alone can be wrong.
@@ -79,22 +80,20 @@ fn tails() {
     let mut random = Random::new(1204);
     let mut tally = Tally::new("loader checks of tails");
     for area in AREAS {
-        let (right, other) = (filler(area), !filler(area));
-        for length in (0..80).chain([255, 256, 1_000, 4_096]) {
+        for length in tails::lengths() {
             let mut draft = AreaDraft::small(area, &mut random);
-            draft.tail = vec![right; length];
-            tally.count(compare_draft(&draft));
-            let shift = random.up_to(8);
-            let mut memory = [&[0x5a; 8][..shift], &draft.bytes()].concat();
-            for at in memory.len() - length..memory.len() {
-                for wrong in [other, right ^ 1, right ^ 0x80] {
-                    memory[at] = wrong;
-                    tally.count(compare(area, &memory[shift..], &draft.inputs));
-                }
-                memory[at] = right;
-            }
-            draft.tail = vec![other; length];
-            tally.count(compare_draft(&draft));
+            draft.tail.clear();
+            with_tails(
+                &draft.bytes(),
+                filler(area),
+                length,
+                &mut random,
+                |lent, is_good| {
+                    let row = compare(area, lent, &draft.inputs);
+                    assert_eq!(row.1 == ACCEPTED, is_good, "a tail of {length} bytes");
+                    tally.count(row);
+                },
+            );
         }
     }
     tally.assert_exactly(80, &in_both(&["S22", ACCEPTED]));
@@ -121,28 +120,14 @@ fn long_tails() {
 fn expiries() {
     let mut random = Random::new(1207);
     let mut tally = Tally::new("loader checks of expiries");
-    let edges = [
-        0,
-        1,
-        2,
-        100,
-        0x7fff_ffff,
-        0x8000_0000,
-        u32::MAX - 1,
-        u32::MAX,
-    ];
     for area in AREAS {
         let mut draft = AreaDraft::small(area, &mut random);
-        for expiry in edges {
+        for (expiry, time, is_good) in expiries_and_times() {
             put(&mut draft.header, 8, expiry);
-            let around = [expiry.wrapping_sub(1), expiry, expiry.wrapping_add(1)];
-            for time in edges.into_iter().chain(around) {
-                draft.inputs.time = time;
-                let row = compare_draft(&draft);
-                let is_good = expiry == 0 || time <= expiry;
-                assert_eq!(row.1 == ACCEPTED, is_good, "{time} with expiry {expiry}");
-                tally.count(row);
-            }
+            draft.inputs.time = time;
+            let row = compare_draft(&draft);
+            assert_eq!(row.1 == ACCEPTED, is_good, "{time} with expiry {expiry}");
+            tally.count(row);
         }
     }
     tally.assert_exactly(10, &in_both(&["S18", ACCEPTED]));

@@ -116,7 +116,7 @@ fn how_a_refused_loader_reads() {
     assert_eq!(
         refused.to_string(),
         "refused with 11 in the loader header: \
-         the firmware header, or a loader's, does not give its length as 1,024"
+         the firmware header, a loader's or the V2 header does not give its length as 1,024"
     );
 }
 

@@ -5,15 +5,8 @@ use crate::archive::image as archive;
 use crate::common::random::Random;
 use crate::draft::Draft;
 use crate::faults::faulty_draft;
-use crate::model::image::{self as model, Form, Parts, Refusal};
-use crate::tally::{cases, Tally};
-
-/// Number and part, or 0 and 0 with a digest.
-type Answer = (u32, u32);
-
-fn told(answer: &Result<[u8; 32], Refusal>) -> Answer {
-    answer.map_or_else(|refusal| (refusal.number, refusal.part), |_| (0, 0))
-}
+use crate::model::image::{self as model, Form, Parts};
+use crate::tally::{cases, told, Tally};
 
 fn draft(random: &mut Random) -> Draft {
     let form = random.pick(&[Form::File, Form::Slot]);

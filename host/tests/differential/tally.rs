@@ -99,6 +99,12 @@ pub fn step(answer: &Result<Image, Refusal>, length: usize) -> &'static str {
     }
 }
 
+/// Number and part, or 0 and 0 on success.
+pub fn told<T>(answer: &Result<T, Refusal>) -> (u32, u32) {
+    let refused = answer.as_ref().err();
+    refused.map_or((0, 0), |refusal| (refusal.number, refusal.part))
+}
+
 /// The rows of a loader's steps. One of them has no name: there are fewer than 1,024 bytes.
 pub const LOADER_STEPS: [&str; 13] = [
     "S1", "S2", "short", "S14", "S16", "S17", "S18", "S19", "S20", "S21", "S22", "S23/14", "S23/15",
@@ -126,6 +132,30 @@ pub fn loader_step(answer: &Result<Image, Refusal>) -> &'static str {
         _ => panic!("no row gives {refusal:?}"),
     }
 }
+
+/// The rows of the older model's steps, for the pair. No two have the same number and part, so these
+/// are their names.
+pub const PAIR_STEPS: [(u32, u32); 19] = [
+    (16, 0),
+    (1, 1),
+    (2, 1),
+    (12, 1),
+    (6, 1),
+    (8, 1),
+    (9, 1),
+    (10, 2),
+    (2, 2),
+    (11, 2),
+    (12, 2),
+    (6, 2),
+    (7, 2),
+    (8, 2),
+    (9, 2),
+    (2, 3),
+    (13, 3),
+    (14, 3),
+    (15, 3),
+];
 
 /// What an installer's call answered: the call, the number and the part.
 pub type Outcome = (&'static str, u32, u32);

@@ -4,7 +4,8 @@
 
 use super::blake2s::blake2s;
 use super::layout::{
-    chunk, hash_of, room_in_first, word, Firmware, Vendor, CHUNKS, FIRMWARE_HEADER, LARGEST, SEAL,
+    chunk, hash_of, room_in_first, word, Firmware, Hash, Vendor, CHUNKS, FIRMWARE_HEADER, LARGEST,
+    SEAL,
 };
 use std::ops::Range;
 
@@ -14,6 +15,16 @@ pub struct Refusal {
     pub number: u32,
     pub part: u32,
     pub chunk: u32,
+}
+
+/// A refusal that names no chunk.
+pub fn refusal(number: u32, part: u32) -> Refusal {
+    let chunk = 0;
+    Refusal {
+        number,
+        part,
+        chunk,
+    }
 }
 
 /// A verdict that is yes. Any other word is no.
@@ -39,7 +50,7 @@ pub struct Image {
     pub fix: [u8; 4],
 }
 
-#[derive(Clone, Copy, Debug, PartialEq, Eq)]
+#[derive(Clone, Copy, Debug, PartialEq, Eq, PartialOrd, Ord)]
 pub enum Form {
     File,
     Slot,
@@ -53,13 +64,8 @@ pub(super) const CODE: u32 = 3;
 pub(super) type Step = Result<(), Refusal>;
 
 pub(super) fn refuse_if(fails: bool, number: u32, part: u32) -> Step {
-    let chunk = 0;
     match fails {
-        true => Err(Refusal {
-            number,
-            part,
-            chunk,
-        }),
+        true => Err(refusal(number, part)),
         false => Ok(()),
     }
 }
@@ -150,9 +156,8 @@ fn code(bytes: &[u8]) -> Range<usize> {
     start..start + Firmware(&bytes[v..]).codelen()
 }
 
-/// S21 and S22.
-fn extent(form: Form, bytes: &[u8]) -> Step {
-    let end = code(bytes).end;
+/// S21 and S22, of code that ends at `end`.
+pub(super) fn extent(form: Form, bytes: &[u8], end: usize) -> Step {
     refuse_if(bytes.len() < end, 2, CODE)?; // S21
     let after = &bytes[end..];
     let follows = match form {
@@ -162,14 +167,12 @@ fn extent(form: Form, bytes: &[u8]) -> Step {
     refuse_if(follows, 13, CODE) // S22
 }
 
-/// S23.
-fn chunks(bytes: &[u8]) -> Step {
-    let v = Vendor(bytes).hdrlen();
-    let hashes = Firmware(&bytes[v..]).hashes();
-    let code = &bytes[code(bytes)];
+/// S23, where chunk 1 has room for `room` bytes.
+pub(super) fn chunks(header: &Firmware, code: &[u8], room: usize, hash: Hash) -> Step {
+    let hashes = header.hashes();
     for k in 1..=CHUNKS {
-        let chunk = chunk(code, v, k);
-        if hashes[k - 1] != hash_of(chunk) {
+        let chunk = chunk(code, room, k);
+        if hashes[k - 1] != hash_of(chunk, hash) {
             let number = if chunk.is_empty() { 15 } else { 14 };
             return Err(Refusal {
                 number,
@@ -189,17 +192,23 @@ pub fn check(form: Form, bytes: &[u8], inputs: &Inputs) -> Result<Image, Refusal
     vendor_policy(bytes, inputs)?;
     firmware_shape(bytes)?;
     firmware_policy(bytes, inputs)?;
-    extent(form, bytes)?;
-    chunks(bytes)?;
 
     let v = Vendor(bytes).hdrlen();
     let header = Firmware(&bytes[v..]);
-    Ok(Image {
+    let code = code(bytes);
+    extent(form, bytes, code.end)?;
+    chunks(&header, &bytes[code], room_in_first(v), blake2s)?;
+    Ok(image_told(v, &header))
+}
+
+/// What the acceptance of an image with this header in front of its code tells.
+pub(super) fn image_told(v: usize, header: &Firmware) -> Image {
+    Image {
         v: word(v),
         codelen: word(header.codelen()),
         version: header.version(),
         fix: header.fix(),
-    })
+    }
 }
 
 /// Where the parts of a checked image stand: each is empty after a refusal.

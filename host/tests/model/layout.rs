@@ -2,7 +2,6 @@
 //! chunks (4). A field is read at its place and nowhere else: a model that reads past the bytes it
 //! has stops the test.
 
-use super::blake2s::blake2s;
 use std::ops::Range;
 
 /// Bytes of the firmware header.
@@ -24,7 +23,7 @@ pub fn word(number: usize) -> u32 {
     u32::try_from(number).expect("32 bits")
 }
 
-fn u32_at(bytes: &[u8], at: usize) -> u32 {
+pub(super) fn u32_at(bytes: &[u8], at: usize) -> u32 {
     u32::from_le_bytes(bytes[at..at + 4].try_into().expect("four bytes"))
 }
 
@@ -135,19 +134,23 @@ pub fn room_in_first(v: usize) -> usize {
     CHUNK.saturating_sub(FIRMWARE_HEADER + v)
 }
 
-/// The code in chunk `k`, from 1 to 16: nothing where the code ends before it.
-pub fn chunk(code: &[u8], v: usize, k: usize) -> &[u8] {
+/// The code in chunk `k`, from 1 to 16, where chunk 1 has room for `room` bytes: nothing where the
+/// code ends before it.
+pub fn chunk(code: &[u8], room: usize, k: usize) -> &[u8] {
     let end = |k: usize| match k {
         0 => 0,
-        k => (room_in_first(v) + (k - 1) * CHUNK).min(code.len()),
+        k => (room + (k - 1) * CHUNK).min(code.len()),
     };
     &code[end(k - 1)..end(k)]
 }
 
+/// The hash function of an image's digests.
+pub type Hash = fn(&[u8]) -> [u8; 32];
+
 /// Hash k: the digest of chunk k, or all zero if it holds nothing.
-pub fn hash_of(chunk: &[u8]) -> [u8; 32] {
+pub fn hash_of(chunk: &[u8], hash: Hash) -> [u8; 32] {
     match chunk {
         [] => [0; 32],
-        chunk => blake2s(chunk),
+        chunk => hash(chunk),
     }
 }

@@ -3,8 +3,8 @@
 
 use super::blake2s::blake2s;
 use super::image::{
-    all_zero, digest_to_sign, expired, mask_fails, policy_is_possible, refuse_if, Image, Refusal,
-    Step, CODE, NO_PART, YES,
+    all_zero, digest_to_sign, expired, image_told, mask_fails, policy_is_possible, refuse_if,
+    Image, Refusal, Step, CODE, NO_PART, YES,
 };
 use super::layout::{word, Firmware};
 use std::ops::Range;
@@ -106,14 +106,7 @@ pub fn check(area: Area, bytes: &[u8], inputs: &Inputs) -> Result<Image, Refusal
     shape(bytes)?;
     policy(area, bytes, inputs)?;
     code(area, bytes)?;
-
-    let header = Firmware(bytes);
-    Ok(Image {
-        v: 0,
-        codelen: word(header.codelen()),
-        version: header.version(),
-        fix: header.fix(),
-    })
+    Ok(image_told(0, &Firmware(bytes)))
 }
 
 /// The question of a loader's header: S1, its length, S14, S16 and S17.

@@ -1,6 +1,6 @@
 //! Independent models of what the archive computes, written for reading and not for speed. None
-//! shares code with the library. BLAKE2s is written from RFC 7693, the rest from
-//! `docs/SPECIFICATION.md`, whose sections and steps (S1 to S23) are cited.
+//! shares code with the library. BLAKE2s is written from RFC 7693, SHA-256 from FIPS 180-4, the rest
+//! from `docs/SPECIFICATION.md`, whose sections and steps (S1 to S23) are cited.
 //!
 //! These points are decisions of the project (`docs/DECISIONS.md`), whether the specification states
 //! them by now or not. The model shares them with the library, so no test here would show a wrong
@@ -27,6 +27,9 @@
 //! - A verdict is yes if its word is 1, and no otherwise.
 //! - A loader's v is told as 0. The check of an area does not test its length, and the bytes after
 //!   the code may be none. The choice never tells the refusal of a card.
+//! - The older model's key sheet is judged before the bytes, and by no digest question. A V2 header
+//!   in the pair that is short of its magic is 10, as any other without it. The digest that a legacy
+//!   header's signatures sign is over the codelen bytes as they are, whatever they are.
 //! - A number that does not fit its field is 28, before every other refusal of a writer. The key
 //!   numbers m and n are 4 instead.
 //!
@@ -43,5 +46,7 @@ pub mod image;
 pub mod installer;
 pub mod layout;
 pub mod loader;
+pub mod older;
 pub mod program;
+pub mod sha256;
 pub mod writer;

@@ -2,8 +2,9 @@
 //! output. A refused writer changes nothing. One that succeeds writes the header at the output's
 //! start, and the bytes past it stay.
 
+use super::blake2s::blake2s;
 use super::image::{code_length_is_possible, policy_is_possible, vendor_length_is_possible};
-use super::layout::{chunk, hash_of, word, CHUNKS, FIRMWARE_HEADER, SEAL};
+use super::layout::{chunk, hash_of, room_in_first, word, CHUNKS, FIRMWARE_HEADER, SEAL};
 
 /// What the vendor writer takes. Numbers are words, and may be too large for their fields.
 #[derive(Clone, Debug)]
@@ -103,7 +104,7 @@ pub fn firmware_header(fields: &FirmwareFields, code: &[u8]) -> Result<Vec<u8>, 
     header.extend(fields.fix);
     header.extend([0; 8]);
     for k in 1..=CHUNKS {
-        header.extend(hash_of(chunk(code, v, k)));
+        header.extend(hash_of(chunk(code, room_in_first(v), k), blake2s));
     }
     header.extend([0; 415]);
     header.push(byte(fields.sigmask));

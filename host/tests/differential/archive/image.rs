@@ -10,10 +10,10 @@ type Check<Given> =
     unsafe extern "C" fn(*const u8, u64, *const Given, *mut ffi::Answer, *mut ffi::Image) -> u32;
 
 /// What a check answers that is given these words.
-pub fn answer_of<Given>(
+pub fn answer_of<Given, const N: usize>(
     call: Check<Given>,
     bytes: &[u8],
-    words: [u32; 5],
+    words: [u32; N],
 ) -> Result<Image, Refusal> {
     let mut given = Guarded::holding(words, WORD);
     let mut told = Guarded::<u32, 3>::new(WORD);
@@ -51,7 +51,7 @@ fn image_of([v, codelen, version, fix]: [u32; 4]) -> Image {
 }
 
 /// The places that pairs of a start and a length tell.
-fn places<const N: usize>(numbers: &[u64]) -> [Range<usize>; N] {
+pub fn places<const N: usize>(numbers: &[u64]) -> [Range<usize>; N] {
     assert_eq!(numbers.len(), 2 * N);
     std::array::from_fn(|i| {
         let (start, length) = (numbers[2 * i], numbers[2 * i + 1]);

@@ -5,6 +5,7 @@
 pub mod image;
 pub mod installer;
 pub mod loader;
+pub mod older;
 pub mod writer;
 
 use crate::model::image::{Inputs, Refusal};

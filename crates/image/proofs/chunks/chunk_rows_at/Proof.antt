@@ -7,28 +7,27 @@ use mathlib.Core.List.{List}
 use Prim.Native.Nat.{ℕ, _-_}
 use Rattle.octets.specs.Read.{spanOf}
 use Rattle.octets.specs.declared.Span.{Span}
-use Rattle.blake2s.specs.Rfc7693.{blake2sOf}
 use Rattle.header.specs.Table.{firstFailing}
-use Rattle.image.specs.Chunks.{hashTableAt, codeAt, chunkRows}
+use Rattle.image.specs.Chunks.{digestBy, hashTableAt, codeAt, chunkRows}
 use Rattle.image.proofs.Hashes.{Reached, reached-first, next-small, reached-end, reached-next, reached-wrong}
 use Rattle.image.proofs.chunks.chunk_rows_at.Statement.{statement}
 use Rattle.image.proofs.chunks.chunk_rows_at.Tie as tie
 
 abbrev Inv-loop : tie.InvT-loop
-Inv-loop b at first table code room from₀ k₀ from k = Reached blake2sOf first code table from k
+Inv-loop hash b at first table code room from₀ k₀ from k = Reached (digestBy hash) first code table from k
 
 abbrev μ-loop : tie.MeasureT-loop
-μ-loop b at first table code room from₀ k₀ from k = 16 - k
+μ-loop hash b at first table code room from₀ k₀ from k = 16 - k
 
 -- the code and the table that the loop reads are those of the promise
 rows-are : (s : tie.After-span-of Inv-loop μ-loop)
     → let a = s .before .before .before .before .args in
-    firstFailing (chunkRows blake2sOf (a .first) (now (s .span-of .result)) (s .before .before .hash-table-at .result) 0 16)
-    ≡ firstFailing (chunkRows blake2sOf (a .first) (codeAt (now (a .b)) (a .at)) (hashTableAt (now (a .b)) (a .at)) 0 16)
+    firstFailing (chunkRows (digestBy (a .hash)) (a .first) (now (s .span-of .result)) (s .before .before .hash-table-at .result) 0 16)
+    ≡ firstFailing (chunkRows (digestBy (a .hash)) (a .first) (codeAt (now (a .b)) (a .at)) (hashTableAt (now (a .b)) (a .at)) 0 16)
 rows-are s =
     let a = s .before .before .before .before .args in
     ap₂
-    (λ (code : List ℕ) (table : List (List ℕ)). firstFailing (chunkRows blake2sOf (a .first) code table 0 16))
+    (λ (code : List ℕ) (table : List (List ℕ)). firstFailing (chunkRows (digestBy (a .hash)) (a .first) code table 0 16))
     (s .span-of .ensures ∙ ap (λ (x : Span). spanOf x (now (a .b))) (s .before .code-span-at .ensures))
     (s .before .before .hash-table-at .ensures)
 

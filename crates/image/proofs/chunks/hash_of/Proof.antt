@@ -1,4 +1,4 @@
--- `image::chunks::hash_of` meets its contract: bytes are none, or some, whose digest `blake2s` promises.
+-- `image::chunks::hash_of` meets its contract: bytes are none, or some, whose digest `digest` promises.
 use mathlib.Core.Path.{refl}
 use borrow.Author.Needs.{needs}
 use Rattle.image.proofs.Hashes.{hash-empty, hash-used}
@@ -11,4 +11,4 @@ hash-of-spec =
     (tie.spec
     (λ c. hash-empty _ _ (c .if1 .taken) refl)
     (λ c κs. search needs)
-    (λ c. hash-used _ _ (c .before .if1 .left) (c .blake2s .ensures)))
+    (λ c. hash-used _ _ (c .before .if1 .left) (c .digest .ensures)))
