@@ -3,4 +3,5 @@ pub mod Rows
 pub mod Facts
 pub mod Alike
 pub mod WordApart
+pub mod Signatures
 pub mod Told

@@ -1,6 +1,6 @@
 -- The first word of the bytes given apart: the steps answer the same with any word there, since only S1 reads it.
 -- Assumes nothing.
-use Prim.Native.Nat.{ℕ, _+_, _-_, _≤_, _<_, min}
+use Prim.Native.Nat.{ℕ, _+_, _-_, _*_, _≤_, _<_, min}
 use mathlib.Core.Path.{_≡_, refl, sym, ap, _∙_}
 use mathlib.Core.Logic.{⊎-elim}
 use mathlib.Core.List.{List, [], _∷_, _++_}
@@ -13,7 +13,7 @@ use lib.Dec.{leb, eqb}
 use borrow.Author.Tests.{leb-true, le-leb}
 use Rattle.octets.specs.Read.{startsWith}
 use Rattle.octets.proofs.Laws.{split}
-use Rattle.header.specs.Layout.{TRZV}
+use Rattle.header.specs.Layout.{TRZV, vendorLen, keyCount}
 use Rattle.header.specs.Steps.{vendorMagicMissing}
 use Rattle.header.specs.Table.{firstFailing, vendorShape, firmwareShape, headerRows}
 use Rattle.header.specs.Alike.{Alike, ReadByHeaders}
@@ -33,9 +33,16 @@ anyEnd n = true
 -- the steps read no position of the first word
 pub read-after-word : (b : List ℕ) → ReadByHeaders afterWord anyEnd b
 read-after-word b = record {
-  fixed = λ i g h. le-leb 4 i g;
-  vendor = λ l i g h. le-leb 4 i g;
-  firmware = λ l i g h. le-leb 4 i (omega arith);
+  hdrlen = λ i g h. le-leb 4 i g;
+  expiry = λ l i g h. le-leb 4 i (omega arith);
+  counts = λ l i g h. le-leb 4 i (omega arith);
+  zeros = λ l i g h. le-leb 4 i (omega arith);
+  string = λ l n. le-leb 4 (32 + 32 * keyCount b) (omega arith);
+  padding = λ l n p i g h. le-leb 4 i (omega arith);
+  mask = λ l. le-leb 4 (vendorLen b - 65) (omega arith);
+  start = λ l i g h. le-leb 4 i (omega arith);
+  gap = λ l i g h. le-leb 4 i (omega arith);
+  end = λ l i g h. le-leb 4 i (omega arith);
   ends = λ n g. refl;
 }
 

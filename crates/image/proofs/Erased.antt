@@ -1,6 +1,6 @@
 -- The two laws on which the installer rests: a first word that is erased or zero is no magic, and erased bytes behind a file are what a slot's S22 asks while all else reads the file alone.
 -- Assumes nothing.
-use Prim.Native.Nat.{ℕ, zero, suc, _+_, _≤_}
+use Prim.Native.Nat.{ℕ, zero, suc, _+_, _-_, _*_, _≤_}
 use mathlib.Core.Path.{_≡_, refl, sym, ap, _∙_}
 use mathlib.Core.List.{List, [], _∷_, _++_}
 use mathlib.Core.Bool.{true, false, not}
@@ -11,7 +11,7 @@ use lib.Seq.{drop-append-seam}
 use lib.Dec.{leb, ltb}
 use borrow.Author.Tests.{le-leb, leb-true, lt-ltb, ltb-true}
 use Rattle.octets.specs.Read.{allAre}
-use Rattle.header.specs.Layout.{TRZV, vendorLen, imageLen}
+use Rattle.header.specs.Layout.{TRZV, vendorLen, keyCount, imageLen}
 use Rattle.header.specs.Steps.{vendorMagicMissing, bytesFollow, tailNotErased}
 use Rattle.header.specs.Table.{firstFailing, headerRows}
 use Rattle.header.specs.Alike.{Alike, ReadByHeaders}
@@ -23,7 +23,7 @@ use Rattle.image.specs.Check.{checkRows, checkSlot}
 use Rattle.image.specs.Theorems.{ErasedOrZeroRefused, AcceptedBeforeErased}
 use Rattle.image.specs.declared.Answer.the-variants.{Accepted}
 use Rattle.image.proofs.Facts.{RowsPass, sound, file-rows-pass, file-told, file-length, rows-accepted}
-use Rattle.image.proofs.Alike.{extent-rows-alike, hash-rows-alike, image-of-alike}
+use Rattle.image.proofs.Alike.{ReadByCheck, extent-rows-alike, hash-rows-alike, image-of-alike}
 use Rattle.header.proofs.WordApart.{starts-within}
 
 -- neither 255 nor 0 is the magic's first letter
@@ -63,14 +63,32 @@ module _ (file : List ℕ) (given : Inputs) (p : RowsPass (vendorMagicMissing fi
   least : 512 ≤ vendorLen file
   least = sound p .vendor .size .least
 
-  read : ReadByHeaders (λ i. ltb i (length file)) (λ n. leb n (length file)) file
+  read-headers : ReadByHeaders (λ i. ltb i (length file)) (λ n. leb n (length file)) file
+  read-headers =
+      let l = whole in
+      record {
+        hdrlen = λ i g h. lt-ltb i (length file) (omega arith);
+        expiry = λ v i g h. lt-ltb i (length file) (omega arith);
+        counts = λ v i g h. lt-ltb i (length file) (omega arith);
+        zeros = λ v i g h. lt-ltb i (length file) (omega arith);
+        string = λ v n. lt-ltb (32 + 32 * keyCount file) (length file) (omega arith);
+        padding = λ v n p i g h. lt-ltb i (length file) (omega arith);
+        mask = λ v. lt-ltb (vendorLen file - 65) (length file) (omega arith);
+        start = λ v i g h. lt-ltb i (length file) (omega arith);
+        gap = λ v i g h. lt-ltb i (length file) (omega arith);
+        end = λ v i g h. lt-ltb i (length file) (omega arith);
+        ends = λ k h. le-leb k (length file) (omega arith);
+      }
+
+  read : ReadByCheck (λ i. ltb i (length file)) (λ n. leb n (length file)) file
   read =
       let l = whole in
       record {
-        fixed = λ i g h. lt-ltb i (length file) (omega arith);
-        vendor = λ v i g h. lt-ltb i (length file) (omega arith);
-        firmware = λ v i g h. lt-ltb i (length file) (omega arith);
-        ends = λ k h. le-leb k (length file) (omega arith);
+        headers = read-headers;
+        versions = λ v i g h. lt-ltb i (length file) (omega arith);
+        hashes = λ v i g h. lt-ltb i (length file) (omega arith);
+        code = λ v i g h. lt-ltb i (length file) (omega arith);
+        end = le-leb (imageLen file) (length file) (omega arith);
       }
 
   magic-stays : vendorMagicMissing slot ≡ vendorMagicMissing file
@@ -80,16 +98,16 @@ module _ (file : List ℕ) (given : Inputs) (p : RowsPass (vendorMagicMissing fi
   tail-erased : tailNotErased slot ≡ false
   unfolding tailNotErased
   tail-erased =
-      let e : imageLen slot ≡ length file = image-len-alike w read least ∙ sym whole in
+      let e : imageLen slot ≡ length file = image-len-alike w read-headers least ∙ sym whole in
       rw (e, drop-append-seam file (replicate n 255), all-erased n)
 
   slot-rows-pass : RowsPass (vendorMagicMissing slot) (tailNotErased slot) slot given
   slot-rows-pass =
       record {
-        headers = rw magic-stays (headers-alike w read (vendorMagicMissing file) given ∙ p .headers);
+        headers = rw magic-stays (headers-alike w read-headers (vendorMagicMissing file) given ∙ p .headers);
         extent =
             extent-rows-alike w read least _ _ (tail-erased ∙ sym (extent-passes (bytesFollow file) file (vendorLen file) (p .extent) .tail)) ∙ p .extent;
-        hashes = hash-rows-alike w read least (λ i g h. let l = whole in lt-ltb i (length file) (omega arith)) ∙ p .hashes;
+        hashes = hash-rows-alike w read least ∙ p .hashes;
       }
 
   slot-stays : checkSlot slot given ≡ Accepted (imageOf file)

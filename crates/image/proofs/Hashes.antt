@@ -3,14 +3,14 @@
 use mathlib.Core.Path.{_≡_, refl, sym, ap, ap₂, _∙_}
 use mathlib.Core.Logic.{⊎-elim}
 use mathlib.Core.List.{List, [], _∷_}
-use mathlib.Core.Bool.{Bool, true, false}
+use mathlib.Core.Bool.{Bool, true, false, not}
 use Prim.Native.Nat.{ℕ, zero, suc, _+_, _-_, _*_, _≤_, _<_}
 use native.Mathlib.Numerals.{add-one}
 use native.Mathlib.Omega.{arith}
 use lib.ListN.{length, getD, take, set, replicate, length-append, List·getD-append}
 use lib.Seq.{take-suc-set, ext-getD, getD-at}
 use borrow.Author.Tests.{not-false}
-use Rattle.octets.specs.Read.{between, bytesAt, same}
+use Rattle.octets.specs.Read.{between, bytesAt}
 use Rattle.octets.proofs.Laws.{split, between-past, same-self, same-equal}
 use Rattle.blake2s.specs.Rfc7693.{blake2sOf, serialised, bytesOf}
 use Rattle.header.specs.Layout.{vendorLen, firstRoom}
@@ -44,6 +44,12 @@ pub start-is : (first k : ℕ) → chunkStart first (suc k) ≡ first + 131072 *
 unfolding chunkStart
 start-is first zero = omega arith
 start-is first (suc k) = let h = start-is first k in omega arith
+
+-- by how many of the first 131,072 bytes chunk 1 has no room for
+pub start-at : (first h k : ℕ) → first + h ≡ 131072 → chunkStart first k ≡ 131072 * k - h
+unfolding chunkStart
+start-at first h zero room = omega arith
+start-at first h (suc k) room = start-is first k ∙ omega arith
 
 pub start-most : (first k : ℕ) → chunkStart first k ≤ first + 131072 * k
 unfolding chunkStart
@@ -144,15 +150,14 @@ pub wrong-used : (bytes : List ℕ) (k : ℕ) → (length bytes ≡ 0 → ⊥) �
 wrong-used [] k e = absurd (e refl)
 wrong-used (x ∷ bytes) k e = refl
 
--- d is the hash that the function made, x its test
-pub row-failed : (digest : List ℕ → List ℕ) {d : List ℕ} {x : Bool} {r : Refusal} (k : ℕ) (bytes hash : List ℕ) → d ≡ hashOf digest bytes → x ≡ same d hash → x ≡ false → r ≡ wrongHash bytes k
-    → Refused r ≡ firstFailing (chunkRow digest k bytes hash ∷ [])
-unfolding chunkRow firstFailing
-row-failed digest k bytes hash e f g h = rw (← e, ← f, g) (ap Refused h)
+-- a row by itself, of a test that says whether the hash is right
+pub row-failed : {t : Bool} {r s : Refusal} → t ≡ false → r ≡ s → Refused r ≡ firstFailing (row (not t) s ∷ [])
+unfolding firstFailing
+row-failed e f = rw e (ap Refused f)
 
-pub row-passed : (digest : List ℕ → List ℕ) {d : List ℕ} {x : Bool} (k : ℕ) (bytes hash : List ℕ) → d ≡ hashOf digest bytes → x ≡ same d hash → x ≡ true → Pass ≡ firstFailing (chunkRow digest k bytes hash ∷ [])
-unfolding chunkRow firstFailing
-row-passed digest k bytes hash e f g = rw (← e, ← f, g)
+pub row-passed : {t : Bool} (s : Refusal) → t ≡ true → Pass ≡ firstFailing (row (not t) s ∷ [])
+unfolding firstFailing
+row-passed s e = rw e
 
 -- a row by itself, and before others
 row-passes : (r : Row) (rows : List Row) → firstFailing (r ∷ []) ≡ Pass → firstFailing (r ∷ rows) ≡ firstFailing rows

@@ -5,3 +5,6 @@ pub mod Alike
 pub mod Erased
 pub mod Parts
 pub mod Signed
+pub mod Difference
+pub mod OneCode
+pub mod Signatures

@@ -4,4 +4,5 @@ pub mod Chunks
 pub mod Answer
 pub mod Check
 pub mod Parts
+pub mod Difference
 pub mod Theorems

@@ -1,4 +1,5 @@
--- What is shown of the checks: the two laws on which the installer rests, what the parts of an accepted image are, and that it is signed.
+-- What is shown of the checks: the two laws on which the installer rests, what the parts of an accepted image are, that it is signed, that its headers
+-- settle its code, and that no signature is read.
 -- Assumes nothing.
 use Prim.Native.Nat.{ℕ, _+_, _-_, _*_}
 use mathlib.Core.Path.{_≡_}
@@ -7,8 +8,10 @@ use mathlib.Core.Bool.{true}
 use mathlib.Core.Logic.{_⊎_}
 use lib.ListN.{length, take, drop, replicate}
 use Rattle.octets.specs.Read.{allAre}
+use Rattle.blake2s.specs.Rfc7693.{blake2sOf}
 use Rattle.header.specs.Layout.{keyCount, stringLen, pictureStart, imageLen}
 use Rattle.header.specs.Table.{refusal}
+use Rattle.header.specs.Alike.{DifferInSignatures}
 use Rattle.header.specs.Theorems.{BothSigned}
 use Rattle.header.specs.declared.Inputs.{Inputs}
 use Rattle.image.specs.declared.Image.{Image}
@@ -17,6 +20,7 @@ use Rattle.image.specs.declared.Answer.the-variants.{Accepted, Rejected}
 use Rattle.image.specs.Chunks.{codeOf}
 use Rattle.image.specs.Check.{checkFile, checkSlot}
 use Rattle.image.specs.Parts.{stringOf, pictureOf, whenAccepted}
+use Rattle.image.specs.Difference.{OneCode}
 
 -- a slot whose first word is erased, or zero, is refused with number 1, for any inputs
 abbrev pub ErasedOrZeroRefused : Type 0
@@ -49,3 +53,41 @@ pub record AcceptedIsSigned : Type 0 where
   pub file : (b : List ℕ) (given : Inputs) (i : Image) → checkFile b given ≡ Accepted i → BothSigned b given
   pub slot : (b : List ℕ) (given : Inputs) (i : Image) → checkSlot b given ≡ Accepted i → BothSigned b given
   pub tail : (b : List ℕ) (given : Inputs) (i : Image) → checkSlot b given ≡ Accepted i → allAre 255 (drop (imageLen b) b) ≡ true
+
+-- the bytes of an image in a file or a slot, its two headers, and the code behind them
+abbrev pub imageBytes : List ℕ → Image → List ℕ
+imageBytes b i = take (i .v + 1024 + i .codelen) b
+
+abbrev pub headerBytes : List ℕ → Image → List ℕ
+headerBytes b i = take (i .v + 1024) b
+
+abbrev pub codeBytes : List ℕ → Image → List ℕ
+codeBytes b i = take (i .codelen) (drop (i .v + 1024) b)
+
+-- two images that a check accepts, each with inputs of its own. The bytes are all of a file, and in a slot those of the image
+pub record AcceptedOneCode (check : List ℕ → Inputs → Answer) (bytes : List ℕ → Image → List ℕ) : Type 0 where
+  -- under the same headers they are the same, or the lowest chunk in which they differ is named, with the bytes of both, and these have the same
+  -- BLAKE2s digest
+  pub headers : (b c : List ℕ) (given other : Inputs) (i j : Image) → check b given ≡ Accepted i → check c other ≡ Accepted j → headerBytes b i ≡ headerBytes c j
+      → OneCode (bytes b i ≡ bytes c j) blake2sOf (i .v + 1024) (codeBytes b i) (codeBytes c j)
+  -- what is signed of the headers, each without its last 65 bytes, settles the code in the same way
+  pub signed : (b c : List ℕ) (given other : Inputs) (i j : Image) → check b given ≡ Accepted i → check c other ≡ Accepted j
+      → take (i .v - 65) b ≡ take (j .v - 65) c → take 959 (drop (i .v) b) ≡ take 959 (drop (j .v) c)
+      → OneCode (codeBytes b i ≡ codeBytes c j) blake2sOf (i .v + 1024) (codeBytes b i) (codeBytes c j)
+
+-- one header, one code (specification, 18.1)
+pub record OneHeaderOneCode : Type 0 where
+  pub file : AcceptedOneCode checkFile (λ b i. b)
+  pub slot : AcceptedOneCode checkSlot imageBytes
+
+-- the same answer of both, and the same parts
+pub record AnsweredAlike (b c : List ℕ) (one two : Answer) : Type 0 where
+  pub answer : one ≡ two
+  pub string : whenAccepted one (stringOf b) ≡ whenAccepted two (stringOf c)
+  pub picture : whenAccepted one (pictureOf b) ≡ whenAccepted two (pictureOf c)
+  pub code : whenAccepted one (codeOf b) ≡ whenAccepted two (codeOf c)
+
+-- what differs inside the signatures alone is answered alike, with the same inputs (specification, 18.2)
+pub record SignaturesAreNotRead : Type 0 where
+  pub file : (b c : List ℕ) (given : Inputs) → DifferInSignatures b c → AnsweredAlike b c (checkFile b given) (checkFile c given)
+  pub slot : (b c : List ℕ) (given : Inputs) → DifferInSignatures b c → AnsweredAlike b c (checkSlot b given) (checkSlot c given)

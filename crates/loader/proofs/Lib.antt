@@ -5,3 +5,4 @@ pub mod Hashes
 pub mod Numbered
 pub mod Accepted
 pub mod Runs
+pub mod OneCode

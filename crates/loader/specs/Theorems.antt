@@ -1,8 +1,9 @@
--- What is shown of loaders: what an accepted one is, said of its bytes; and which one is handed back.
+-- What is shown of loaders: what an accepted one is, said of its bytes; that its header settles its code; and which one is handed back.
 -- Assumes nothing.
 use Prim.Native.Nat.{ℕ, _+_, _*_, _%_, _≤_}
 use mathlib.Core.Path.{_≡_}
 use mathlib.Core.Bool.{Bool, true}
+use mathlib.Core.Logic.{_⊎_}
 use mathlib.Core.List.{List, [], _∷_, _++_}
 use lib.ListN.{length, getD, take, drop, replicate}
 use Rattle.octets.specs.Read.{u32At, bytesAt, allAre}
@@ -11,6 +12,7 @@ use Rattle.code_header.specs.Signers.{Signers}
 use Rattle.header.specs.declared.Refusal.{Refusal}
 use Rattle.header.specs.declared.Outcome.the-variants.{Pass, Refused}
 use Rattle.image.specs.Parts.{whenAccepted}
+use Rattle.image.specs.Difference.{OneCode}
 use Rattle.image.specs.declared.Image.{Image}
 use Rattle.image.specs.declared.Answer.the-variants.{Accepted, Rejected}
 use Rattle.loader.specs.declared.AreaInputs.{AreaInputs}
@@ -72,6 +74,19 @@ pub record LoadersAreAccepted : Type 0 where
   -- bytes that do not start with the magic, such as an empty card or an erased area, are refused with 1 under part 2, whatever the inputs
   pub cardNone : (b : List ℕ) (given : AreaInputs) → (take 4 b ≡ 84 ∷ 82 ∷ 90 ∷ 66 ∷ [] → ⊥) → checkCard b given ≡ Rejected (record { number = 1; part = 2; chunk = 0 })
   pub internalNone : (b : List ℕ) (given : AreaInputs) → (take 4 b ≡ 84 ∷ 82 ∷ 90 ∷ 66 ∷ [] → ⊥) → checkInternal b given ≡ Rejected (record { number = 1; part = 2; chunk = 0 })
+
+-- ---- one header, one code
+
+-- accepted in one of the areas
+abbrev pub AcceptedLoader : List ℕ → AreaInputs → Image → Type 0
+AcceptedLoader b given i = (checkCard b given ≡ Accepted i) ⊎ (checkInternal b given ≡ Accepted i)
+
+-- loaders that are accepted under the same header, in any area and each with inputs of its own, are the same, or the lowest chunk in which they differ,
+-- which is chunk 1, has the same BLAKE2s digest in both (specification, 18.1)
+abbrev pub OneLoaderHeaderOneCode : Type 0
+OneLoaderHeaderOneCode =
+    (b c : List ℕ) (given other : AreaInputs) (i j : Image) → AcceptedLoader b given i → AcceptedLoader c other j → take 1024 b ≡ take 1024 c
+    → OneCode (take (1024 + i .codelen) b ≡ take (1024 + j .codelen) c) blake2sOf 1024 (take (i .codelen) (drop 1024 b)) (take (j .codelen) (drop 1024 c))
 
 -- ---- what is signed
 

@@ -1,9 +1,15 @@
 // What is shown of loaders, each as the promise of a function with an empty body.
-ghost use Rattle.loader.specs.Theorems.{LoadersAreAccepted, LoaderHeadersAnswer, AcceptedLoaderRuns};
+ghost use Rattle.loader.specs.Theorems.{LoadersAreAccepted, OneLoaderHeaderOneCode, LoaderHeadersAnswer, AcceptedLoaderRuns};
 
 // Each check accepts exactly the loaders, and tells what they are.
 pub fn loaders_are_accepted()
     ensures { λ r. ⌜ LoadersAreAccepted ⌝ }
+{}
+
+// Loaders that are accepted under the same header are the same, or the lowest chunk in which they
+// differ is a collision of BLAKE2s.
+pub fn one_loader_header_one_code()
+    ensures { λ r. ⌜ OneLoaderHeaderOneCode ⌝ }
 {}
 
 // The digest question is answered exactly for the header of a loader.

@@ -33,6 +33,11 @@ pub and-right : (x y : Bool) → (x && y) ≡ true → y ≡ true
 and-right true y h = h
 and-right false y h = cc
 
+-- one side of a disjunction holds
+pub or-cases : (x y : Bool) → (x || y) ≡ true → (x ≡ true) ⊎ (y ≡ true)
+or-cases true y h = inl refl
+or-cases false y h = inr h
+
 -- both sides of a disjunction fail
 pub or-left : (x y : Bool) → (x || y) ≡ false → x ≡ false
 or-left true y h = h

@@ -1,7 +1,7 @@
 -- S23 of the older model: it passes exactly where each hash is the digest of what its chunk holds, or zeros where that is nothing.
 -- Assumes nothing.
 use Prim.Native.Nat.{ℕ, zero, suc, _+_, _-_, _*_, _≤_, _<_}
-use mathlib.Core.Path.{_≡_, refl, sym, ap, ap₂, _∙_}
+use mathlib.Core.Path.{_≡_, refl, sym, ap, _∙_}
 use mathlib.Core.List.{List, []}
 use native.Mathlib.Omega.{arith}
 use native.Mathlib.Decide.{decLe}
@@ -10,25 +10,27 @@ use Rattle.octets.specs.Read.{u32At, bytesAt, between}
 use Rattle.sha256.specs.Fips180.{sha256Of}
 use Rattle.header.specs.Table.{firstFailing}
 use Rattle.header.specs.declared.Outcome.the-variants.{Pass}
-use Rattle.image.specs.Chunks.{chunkStart, chunk, hashOf, hashTableAt, codeAt, chunkRows}
-use Rattle.image.proofs.Hashes.{start-is, chunk-empty, hash-empty, hash-used, hash-at, chunk-rows-pass, chunk-rows-right}
+use Rattle.image.specs.Difference.{chunkOf}
+use Rattle.image.specs.Chunks.{chunk, hashOf, hashTableAt, codeAt, chunkRows}
+use Rattle.image.proofs.Hashes.{start-at, chunk-empty, hash-empty, hash-used, hash-at, chunk-rows-pass, chunk-rows-right}
+use Rattle.image.proofs.OneCode.{chunk-at}
 use Rattle.image.proofs.Facts.{length-part}
 use Rattle.image.proofs.Parts.{part-taken}
 use Rattle.older_model.specs.Steps.{firstRoom}
-use Rattle.older_model.specs.Theorems.{chunkFrom, chunkTo}
-
--- where a chunk starts in the code
-start-from : (k : ℕ) → chunkStart firstRoom k ≡ 131072 * k - 1280
-unfolding chunkStart
-start-from zero = refl
-start-from (suc k) = start-is firstRoom k ∙ omega arith
+use Rattle.older_model.specs.Theorems.{chunkFrom}
 
 -- chunk number k, counted from 1
-chunk-is : (k : ℕ) (code : List ℕ) → chunk firstRoom k code ≡ take (chunkTo (suc k) - chunkFrom (suc k)) (drop (chunkFrom (suc k)) code)
-unfolding chunk between
+chunk-is : (k : ℕ) (code : List ℕ) → chunk firstRoom k code ≡ chunkOf 1280 (suc k) code
 chunk-is k code =
     let e : suc k - 1 ≡ k = omega arith in
-    rw e (ap₂ (λ (s t : ℕ). take (t - s) (drop s code)) (start-from k) (start-from (suc k)))
+    sym (chunk-at firstRoom 1280 refl (suc k) code (omega arith) ∙ ap (λ (n : ℕ). chunk firstRoom n code) e)
+
+chunk-used : (k : ℕ) (code : List ℕ) → chunkFrom (suc k) < length code → length (chunkOf 1280 (suc k) code) ≡ 0 → ⊥
+unfolding between
+chunk-used k code h z =
+    let t = length-take (131072 * suc k - 1280 - chunkFrom (suc k)) (drop (chunkFrom (suc k)) code) in
+    let d = length-drop (chunkFrom (suc k)) code in
+    omega arith
 
 pub code-is : (b : List ℕ) (at : ℕ) → codeAt b at ≡ take (u32At b (at + 12)) (drop (at + 1024) b)
 code-is b at = part-taken b (at + 1024) (u32At b (at + 12)) (at + 1024) (at + 1024 + u32At b (at + 12)) refl refl
@@ -42,7 +44,7 @@ module _ (b : List ℕ) (at : ℕ) (held : at + 1024 + u32At b (at + 12) ≤ len
 
   -- a hash as it must be
   abbrev pub Used : ℕ → Type 0
-  Used k = chunkFrom k < codelen → bytesAt 32 b (at + 32 * k) ≡ sha256Of (take (chunkTo k - chunkFrom k) (drop (chunkFrom k) code))
+  Used k = chunkFrom k < codelen → bytesAt 32 b (at + 32 * k) ≡ sha256Of (chunkOf 1280 k code)
 
   abbrev pub Unused : ℕ → Type 0
   Unused k = codelen ≤ chunkFrom k → bytesAt 32 b (at + 32 * k) ≡ replicate 32 0
@@ -51,22 +53,15 @@ module _ (b : List ℕ) (at : ℕ) (held : at + 1024 + u32At b (at + 12) ≤ len
   code-long = length-part b (at + 1024) (at + 1024 + codelen) codelen refl held
 
   -- what the hash of the chunk at k is
-  hash-of-used : (k : ℕ) → chunkFrom (suc k) < codelen → hashOf sha256Of (chunk firstRoom k (codeAt b at)) ≡ sha256Of (take (chunkTo (suc k) - chunkFrom (suc k)) (drop (chunkFrom (suc k)) code))
+  hash-of-used : (k : ℕ) → chunkFrom (suc k) < codelen → hashOf sha256Of (chunk firstRoom k (codeAt b at)) ≡ sha256Of (chunkOf 1280 (suc k) code)
   hash-of-used k h =
-      let e : chunk firstRoom k (codeAt b at) ≡ take (chunkTo (suc k) - chunkFrom (suc k)) (drop (chunkFrom (suc k)) code) = chunk-is k (codeAt b at) ∙ ap (λ (c : List ℕ). take (chunkTo (suc k) - chunkFrom (suc k)) (drop (chunkFrom (suc k)) c)) (code-is b at) in
-      sym (hash-used sha256Of (chunk firstRoom k (codeAt b at)) (λ z. some k h (rw (chunk-is k (codeAt b at)) at z)) refl) ∙ ap sha256Of e
-    where
-      some : (k : ℕ) → chunkFrom (suc k) < codelen → length (take (chunkTo (suc k) - chunkFrom (suc k)) (drop (chunkFrom (suc k)) (codeAt b at))) ≡ 0 → ⊥
-      some k h z =
-          let l = code-long in
-          let t = length-take (chunkTo (suc k) - chunkFrom (suc k)) (drop (chunkFrom (suc k)) (codeAt b at)) in
-          let d = length-drop (chunkFrom (suc k)) (codeAt b at) in
-          omega arith
+      let e : chunk firstRoom k (codeAt b at) ≡ chunkOf 1280 (suc k) code = chunk-is k (codeAt b at) ∙ ap (chunkOf 1280 (suc k)) (code-is b at) in
+      sym (hash-used sha256Of (chunk firstRoom k (codeAt b at)) (λ z. chunk-used k (codeAt b at) (let l = code-long in omega arith) (rw (chunk-is k (codeAt b at)) at z)) refl) ∙ ap sha256Of e
 
   hash-of-unused : (k : ℕ) → codelen ≤ chunkFrom (suc k) → hashOf sha256Of (chunk firstRoom k (codeAt b at)) ≡ replicate 32 0
   hash-of-unused k h =
       let l = code-long in
-      let s = start-from k in
+      let s = start-at firstRoom 1280 k refl in
       let e : chunk firstRoom k (codeAt b at) ≡ [] = chunk-empty firstRoom k (codeAt b at) (omega arith) in
       sym (hash-empty sha256Of (chunk firstRoom k (codeAt b at)) (ap length e) refl)
 

@@ -8,3 +8,4 @@ pub mod Hashes
 pub mod Rows
 pub mod Refused
 pub mod Accepted
+pub mod OneCode

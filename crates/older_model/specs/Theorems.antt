@@ -1,4 +1,5 @@
--- What is shown of the older model: what an accepted image is, said of its bytes; in which order the first steps refuse; and what is signed.
+-- What is shown of the older model: what an accepted image is, said of its bytes; in which order the first steps refuse; that headers settle the code;
+-- and what is signed.
 -- Assumes nothing.
 use Prim.Native.Nat.{ℕ, _+_, _-_, _*_, _%_, _≤_, _<_}
 use mathlib.Core.Path.{_≡_}
@@ -10,6 +11,7 @@ use Rattle.sha256.specs.Fips180.{sha256Of}
 use Rattle.header.specs.declared.Refusal.{Refusal}
 use Rattle.header.specs.declared.Outcome.the-variants.{Pass, Refused}
 use Rattle.image.specs.Parts.{whenAccepted}
+use Rattle.image.specs.Difference.{chunkOf, OneCode}
 use Rattle.image.specs.declared.Image.{Image}
 use Rattle.image.specs.declared.Answer.{Answer}
 use Rattle.image.specs.declared.Answer.the-variants.{Accepted, Rejected}
@@ -68,12 +70,9 @@ pub record SignedByThree (keys : ℕ) (b : List ℕ) (at : ℕ) (verdicts : Verd
 
 -- ---- what is accepted
 
--- how many bytes of code stand before chunk k, and how many up to its end: chunk 1 has 129,792 bytes, and each later one 131,072
+-- how many bytes of code stand before chunk k: chunk 1 has 129,792 bytes, and each later one 131,072
 abbrev pub chunkFrom : ℕ → ℕ
 chunkFrom k = 131072 * (k - 1) - 1280
-
-abbrev pub chunkTo : ℕ → ℕ
-chunkTo k = 131072 * k - 1280
 
 -- the time is not above an expiry, which 0 leaves out
 abbrev pub Timely : List ℕ → ℕ → OlderInputs → Type 0
@@ -89,7 +88,7 @@ pub record IsV2 (b : List ℕ) (at : ℕ) (given : OlderInputs) (i : Image) : Ty
   -- all of the code is there. Hash k is the digest of what chunk k holds of it, or zeros where it holds nothing
   pub held : at + 1024 + i .codelen ≤ length b
   pub used : (k : ℕ) → 1 ≤ k → k ≤ 16 → chunkFrom k < i .codelen
-      → bytesAt 32 b (at + 32 * k) ≡ sha256Of (take (chunkTo k - chunkFrom k) (drop (chunkFrom k) (take (i .codelen) (drop (at + 1024) b))))
+      → bytesAt 32 b (at + 32 * k) ≡ sha256Of (chunkOf 1280 k (take (i .codelen) (drop (at + 1024) b)))
   pub unused : (k : ℕ) → 1 ≤ k → k ≤ 16 → i .codelen ≤ chunkFrom k → bytesAt 32 b (at + 32 * k) ≡ replicate 32 0
   -- what is told: v is 0, and codelen that of the V2 header
   pub v : i .v ≡ 0
@@ -175,6 +174,22 @@ pub record OlderImagesAreAccepted : Type 0 where
   -- a V2 header by itself is not asked for verdicts on a legacy header
   pub ownFile : (b : List ℕ) (given : OlderInputs) (x : Verdicts) → checkV2File b (legacyVerdicts x given) ≡ checkV2File b given
   pub ownSlot : (b : List ℕ) (given : OlderInputs) (x : Verdicts) → checkV2Slot b (legacyVerdicts x given) ≡ checkV2Slot b given
+
+-- ---- one header, one code
+
+-- two images that a check of one form accepts, each with inputs of its own, under the same headers. They are the same, or the lowest chunk in which they
+-- differ is named, with the bytes of both, and these have the same SHA-256 digest. The bytes are all of a file, and in a slot those of the image
+abbrev pub FormOneCode : (List ℕ → OlderInputs → Answer) → ℕ → (List ℕ → Image → List ℕ) → Type 0
+FormOneCode check at bytes =
+    (b c : List ℕ) (given other : OlderInputs) (i j : Image) → check b given ≡ Accepted i → check c other ≡ Accepted j → take (at + 1024) b ≡ take (at + 1024) c
+    → OneCode (bytes b i ≡ bytes c j) sha256Of 1280 (take (i .codelen) (drop (at + 1024) b)) (take (j .codelen) (drop (at + 1024) c))
+
+-- one header, one code (specification, 18.1)
+pub record OlderHeadersOneCode : Type 0 where
+  pub v2File : FormOneCode checkV2File 0 (λ b i. b)
+  pub v2Slot : FormOneCode checkV2Slot 0 (λ b i. take (1024 + i .codelen) b)
+  pub pairFile : FormOneCode checkPairFile 256 (λ b i. b)
+  pub pairSlot : FormOneCode checkPairSlot 256 (λ b i. take (1280 + i .codelen) b)
 
 -- ---- what is signed
 

@@ -9,7 +9,7 @@ use native.Mathlib.Omega.{arith}
 use lib.Dec.{eqb, leb}
 use borrow.Author.Tests.{eqb-true, leb-true, eq-eqb, le-leb, not-true, not-false}
 use Rattle.octets.specs.Rounding.{multipleOf}
-use Rattle.octets.proofs.Laws.{and-left, and-right}
+use Rattle.octets.proofs.Laws.{and-left, and-right, or-cases}
 use Rattle.sessions.specs.Record.{slotLenRight, fileLenRight, pagesOf, wordsStored, untouched, counted, sound, full, waiting}
 use Rattle.sessions.specs.declared.Session.{Session}
 
@@ -52,10 +52,6 @@ every-of : (bs : List Bool) → Each bs → every bs ≡ true
 every-of [] h = refl
 every-of (b ∷ []) h = h .0
 every-of (b ∷ c ∷ bs) h = rw (h .0) (every-of (c ∷ bs) (h .1))
-
-or-cases : (a b : Bool) → (a || b) ≡ true → (a ≡ true) ⊎ (b ≡ true)
-or-cases true b e = inl refl
-or-cases false b e = inr e
 
 either : (a b : Bool) → (a ≡ true) ⊎ (b ≡ true) → (a || b) ≡ true
 either true b h = refl

@@ -6,6 +6,7 @@ use mathlib.Core.List.{List, [], _∷_, _++_, append-assoc}
 use mathlib.Core.Bool.{Bool, not}
 use native.Mathlib.Omega.{arith}
 use lib.ListN.{length, take, drop, replicate}
+use borrow.Author.Tests.{le-leb}
 use Rattle.octets.specs.Read.{u32At, between, startsWith}
 use Rattle.blake2s.specs.Rfc7693.{blake2sOf}
 use Rattle.blake2s.specs.Parts.{zeroTailed}
@@ -22,7 +23,7 @@ use Rattle.header.proofs.Alike.{between-alike}
 use Rattle.header.proofs.Told.{told-too}
 use Rattle.signing.specs.Digests.{vendorRows, firmwareRows, signedVendor, signedFirmware, answered, vendorDigest, firmwareDigest}
 use Rattle.signing.specs.declared.Digest.{Digest}
-use Rattle.header.proofs.WordApart.{read-after-word, word-byte, shaped-word-alike, word-magic, word-vendor-shape, word-firmware-shape}
+use Rattle.header.proofs.WordApart.{word-byte, shaped-word-alike, word-magic, word-vendor-shape, word-firmware-shape}
 
 -- ---- a call's return, whichever its rows are
 
@@ -65,7 +66,7 @@ firmware-rows-own-shape m b p = stage-then (vendorShape b) _ (pass-tail m _ _ p)
 
 -- ---- the word given apart
 
-answered-same : (o o′ : Outcome) (d d′ : List ℕ) → o ≡ o′ → (o′ ≡ Pass → d ≡ d′) → answered o d ≡ answered o′ d′
+pub answered-same : (o o′ : Outcome) (d d′ : List ℕ) → o ≡ o′ → (o′ ≡ Pass → d ≡ d′) → answered o d ≡ answered o′ d′
 answered-same o Pass d d′ e h = rw (e, h refl)
 answered-same o (Refused r) d d′ e h = rw e
 
@@ -89,8 +90,7 @@ module _ (w b : List ℕ) (l : length w ≡ 4) where
   unfolding signedFirmware
   signed-firmware p =
       let least = vendor-shaped b p .size .least in
-      let read = read-after-word b in
-      rw (word-len) (ap zeroTailed (between-alike (shaped-word-alike w b l p) (vendorLen b) (vendorLen b + 959) refl (λ i g h. read .firmware least i g (omega arith))))
+      rw (word-len) (ap zeroTailed (between-alike (shaped-word-alike w b l p) (vendorLen b) _ refl (λ i g h. le-leb 4 i (omega arith))))
 
   -- S1 is asked of the word, and the other rows answer the same with the word in its place
   asked-apart : (rows : Bool → List ℕ → List Row) → ((m : Bool) → firstFailing (rows m (w ++ drop 4 b)) ≡ firstFailing (rows m b))

@@ -1,5 +1,5 @@
 -- What is shown of the places of signatures: where a digest question is answered they stand in the bytes, and hold what the check and the digest
--- take for sigmask, signature and keys. After a refusal there are none.
+-- take for sigmask, signature and keys. After a refusal there are none. And no signature is signed.
 -- Assumes nothing.
 use Prim.Native.Nat.{ℕ, _+_, _-_, _*_, _≤_}
 use mathlib.Core.Path.{_≡_}
@@ -7,6 +7,7 @@ use mathlib.Core.List.{List, [], _∷_}
 use lib.ListN.{length, take, drop}
 use Rattle.octets.specs.Read.{spanOf}
 use Rattle.header.specs.Layout.{vendorLen, vendorMask, firmwareMask, signersNeeded, keyCount}
+use Rattle.header.specs.Alike.{DifferInSignatures}
 use Rattle.header.specs.declared.Refusal.{Refusal}
 use Rattle.header.specs.declared.Outcome.the-variants.{Pass, Refused}
 use Rattle.signing.specs.Digests.{vendorDigest, firmwareDigest}
@@ -43,3 +44,8 @@ pub record SignaturesStand : Type 0 where
   pub vendorNone : (b : List ℕ) (r : Refusal) → vendorDigest b .outcome ≡ Refused r → vendorSignature b ≡ nothing
   pub firmware : (b : List ℕ) → firmwareDigest b .outcome ≡ Pass → FirmwareStands b (firmwareSignature b)
   pub firmwareNone : (b : List ℕ) (r : Refusal) → firmwareDigest b .outcome ≡ Refused r → firmwareSignature b ≡ nothing
+
+-- what differs inside the signatures alone has the same digests to be signed, and the same refusals of the two questions (specification, 18.2)
+pub record SignaturesAreNotSigned : Type 0 where
+  pub vendor : (b c : List ℕ) → DifferInSignatures b c → vendorDigest b ≡ vendorDigest c
+  pub firmware : (b c : List ℕ) → DifferInSignatures b c → firmwareDigest b ≡ firmwareDigest c

@@ -52,6 +52,26 @@ impl Draft {
         random: &mut Random,
     ) -> Draft {
         let fields = vendor_fields(&inputs, random);
+        Draft::of_fields(fields, inputs, form, code_length, random)
+    }
+
+    /// A file with inputs that are given and a vendor header of `v` bytes, which the picture fills.
+    pub fn with_v(v: usize, code_length: usize, inputs: Inputs, random: &mut Random) -> Draft {
+        let mut fields = vendor_fields(&inputs, random);
+        fields.string.truncate(155); // the longest in 512 bytes with eight keys
+        let picture_start = 33 + fields.keys.len() + fields.string.len();
+        let picture = v - 65 - picture_start.next_multiple_of(4);
+        fields.picture = random.bytes(picture);
+        Draft::of_fields(fields, inputs, Form::File, |_| code_length, random)
+    }
+
+    fn of_fields(
+        fields: VendorFields,
+        inputs: Inputs,
+        form: Form,
+        code_length: impl Fn(usize) -> usize,
+        random: &mut Random,
+    ) -> Draft {
         let vendor = vendor_header(&fields).expect("the fields are good");
         let code = random.bytes(code_length(vendor.len()));
         let firmware_fields = firmware_fields(vendor.len(), &fields, &inputs, random);
