@@ -54,14 +54,20 @@ def draw_mask(random, m, n):
     return sum(1 << signer for signer in signers)
 
 
+def draw_code(random, code_length):
+    """Those of CodeFields."""
+    return {"expiry": draw_expiry(random), "version": draw_version(random),
+            "fix": random.randbytes(4), "code": random.randbytes(code_length)}
+
+
 def draw(random, n, string, picture, v=0, end=0):
     """The fields of an image. Without v it is the least, without an end the code is short."""
     m = random.randint(1, n)
     fields = Fields(
-        v=v, expiry=draw_expiry(random), vendor_version=random.randbytes(2), m=m,
+        v=v, vendor_expiry=draw_expiry(random), vendor_version=random.randbytes(2), m=m,
         keys=[make_key(random.randbytes(32)) for _ in range(n)], vtrust=random.getrandbits(16),
         string=string, picture=draw_picture(random, *picture),
-        vendor_mask=draw_mask(random, *POLICY), firmware_expiry=draw_expiry(random),
+        vendor_mask=draw_mask(random, *POLICY), expiry=draw_expiry(random),
         version=draw_version(random), fix=random.randbytes(4), code=b"",
         firmware_mask=draw_mask(random, m, n))
     # trezorlib wants a byte between the picture and the sigmask.
@@ -141,7 +147,7 @@ def compare_signatures(fields, file):
 
 def compare_answers(fields, file):
     accepted = "accepted", [fields.v, len(fields.code)] + fields.versions()
-    last_good_time = min(fields.expiry or LATEST, fields.firmware_expiry or LATEST)
+    last_good_time = min(fields.vendor_expiry or LATEST, fields.expiry or LATEST)
     verdicts = chip(file)
     same("file check", check(check_file, file, last_good_time, verdicts), accepted)
     same("slot check", check(check_slot, in_slot(file), last_good_time, verdicts), accepted)

@@ -45,7 +45,7 @@ def changed(file, *places, byte=1):
 def plain():
     """Five keys, of which the first two sign, no expiry, and a vendor header of 512 bytes."""
     fields = draw(Random(0), 5, b"Acme", PICTURES[0])
-    return replace(fields, expiry=0, firmware_expiry=0, m=2, vendor_mask=3, firmware_mask=3,
+    return replace(fields, vendor_expiry=0, expiry=0, m=2, vendor_mask=3, firmware_mask=3,
                    version=bytes([2, 0, 0, 0]), vtrust=0xFFFF)
 
 
@@ -112,7 +112,7 @@ def refused_here(fields):
          refused(6, 1), OK),
         ("S8, bytes between string and picture not zero", answers(*changed(good, 197, 199)),
          refused(6, 1), OK),
-        ("S9, vendor header expired", answers(built(fields, expiry=1)), refused(7, 1), OK),
+        ("S9, vendor header expired", answers(built(fields, vendor_expiry=1)), refused(7, 1), OK),
         ("S10, vendor sigmask with too many ones", answers(built(fields, vendor_mask=7)),
          refused(8, 1), OK),
         ("S13, TRZB after a vendor header", answers(loader), refused(10, 2), OK),
@@ -129,7 +129,7 @@ def refused_here(fields):
          answers(*changed(good, v + 544, v + 738)), refused(6, 2), OK),
         ("S17, bytes 739 to 958 not zero", answers(*changed(good, v + 739, v + 958)),
          refused(6, 2), OK),
-        ("S18, firmware header expired", answers(built(fields, firmware_expiry=1)),
+        ("S18, firmware header expired", answers(built(fields, expiry=1)),
          refused(7, 2), OK),
         ("S19, firmware sigmask with too many ones", answers(built(fields, firmware_mask=7)),
          refused(8, 2), OK),

@@ -9,13 +9,14 @@ import sys
 from dataclasses import dataclass, replace
 from random import Random
 
-from construct import ConstructError, Container
+from construct import ConstructError
 from trezorlib import firmware
 
-from exchange import LATEST, compare_fields, draw_expiry, draw_mask, draw_version, same
+from exchange import LATEST, compare_fields, draw_code, draw_mask, same
 from interop import NO_PARSE, NOW, OK, changed, refused, show
-from sides import (BOOT_KEYS, BYTES, LENGTH, POLICY, SEAL, SLICE, UNSIGNED, Answer, Differs, Image,
-                   Span, ask, check, exported, is_signed, sign, struct, taken, words)
+from sides import (BOOT_KEYS, BYTES, LENGTH, POLICY, SEAL, SLICE, UNSIGNED, Answer, CodeFields,
+                   Differs, Image, Span, ask, check, code_there, exported, is_signed, sign, struct,
+                   taken, words)
 
 HEADER = 1_024
 LONGEST_CODE = 130_048
@@ -28,27 +29,17 @@ BAD_HASHES = "refused by its hashes"
 
 
 @dataclass
-class Fields:
+class Fields(CodeFields):
     """What a loader is made from. The mask says which keys sign it."""
 
-    expiry: int
-    version: bytes
-    fix: bytes
-    code: bytes
     mask: int
 
     def __str__(self):
         return f"loader with code of {len(self.code)}"
 
-    def versions(self):
-        """Version and fix version as words."""
-        return [int.from_bytes(version, "little") for version in (self.version, self.fix)]
-
 
 def draw(random, code_length):
-    return Fields(expiry=draw_expiry(random), version=draw_version(random),
-                  fix=random.randbytes(4), code=random.randbytes(code_length),
-                  mask=draw_mask(random, *POLICY))
+    return Fields(**draw_code(random, code_length), mask=draw_mask(random, *POLICY))
 
 
 # Here
@@ -95,15 +86,8 @@ def in_internal(data):
 
 def structure(fields, seal=UNSIGNED):
     """The loader as trezorlib's structure, with the code hashes that trezorlib computes."""
-    names = "major", "minor", "patch", "build"
-    header = Container(
-        magic=firmware.HeaderType.BOOTLOADER, header_len=HEADER, expiry=fields.expiry,
-        code_length=len(fields.code), version=Container(zip(names, fields.version)),
-        fix_version=Container(zip(names, fields.fix)),
-        hashes=firmware.calculate_code_hashes(fields.code, HEADER),
-        v1_signatures=3 * [bytes(64)], v1_key_indexes=3 * [0],
-        sigmask=seal[0], signature=seal[1:])
-    return Container(header=header, code=fields.code)
+    hashes = firmware.calculate_code_hashes(fields.code, HEADER)
+    return code_there(firmware.HeaderType.BOOTLOADER, fields, hashes, seal)
 
 
 def built(fields, **changes):

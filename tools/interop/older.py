@@ -20,10 +20,10 @@ import ecdsa
 from construct import ConstructError, Container
 from trezorlib import firmware
 
-from exchange import LATEST, compare_fields, draw_expiry, draw_version, same
+from exchange import LATEST, compare_fields, draw_code, same
 from interop import BAD_DATA, NO_PARSE, NOW, OK, changed, refused, show
-from sides import (BYTES, SLICE, WORD, Answer, Differs, Image, Span, ask, check, exported, taken,
-                   validate, words)
+from sides import (BYTES, SLICE, WORD, Answer, CodeFields, Differs, Image, Span, ask, check,
+                   code_there, exported, taken, validate, words)
 
 LEGACY = 256
 HEADER = 1_024
@@ -48,28 +48,18 @@ def bad_signature(slot):
 
 
 @dataclass
-class Fields:
+class Fields(CodeFields):
     """What an image is made from. The indexes say which keys sign the header, from 1."""
 
-    expiry: int
-    version: bytes
-    fix: bytes
-    code: bytes
     indexes: list
     legacy_indexes: list
 
     def __str__(self):
         return f"image of the older model with code of {len(self.code)}"
 
-    def versions(self):
-        """Version and fix version as words."""
-        return [int.from_bytes(version, "little") for version in (self.version, self.fix)]
-
 
 def draw(random, code_length):
-    return Fields(expiry=draw_expiry(random), version=draw_version(random),
-                  fix=random.randbytes(4), code=random.randbytes(code_length),
-                  indexes=random.sample(range(1, 6), 3),
+    return Fields(**draw_code(random, code_length), indexes=random.sample(range(1, 6), 3),
                   legacy_indexes=random.sample(range(1, 6), 3))
 
 
@@ -153,13 +143,8 @@ def hashes_there(code):
 
 def structure(fields, signatures=UNSIGNED):
     """The V2 image as trezorlib's structure."""
-    names = "major", "minor", "patch", "build"
-    header = Container(
-        magic=firmware.HeaderType.FIRMWARE, header_len=HEADER, expiry=fields.expiry,
-        code_length=len(fields.code), version=Container(zip(names, fields.version)),
-        fix_version=Container(zip(names, fields.fix)), hashes=hashes_of(fields.code),
-        v1_signatures=signatures, v1_key_indexes=fields.indexes, sigmask=0, signature=bytes(64))
-    return Container(header=header, code=fields.code)
+    return code_there(firmware.HeaderType.FIRMWARE, fields, hashes_of(fields.code),
+                      signatures=signatures, indexes=fields.indexes)
 
 
 def built(fields, **changes):

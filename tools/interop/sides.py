@@ -21,12 +21,26 @@ class Differs(Exception):
 
 
 @dataclass
-class Fields:
+class CodeFields:
+    """What a header in front of code is made from, and the code."""
+
+    expiry: int
+    version: bytes
+    fix: bytes
+    code: bytes
+
+    def versions(self):
+        """Version and fix version as words."""
+        return [int.from_bytes(version, "little") for version in (self.version, self.fix)]
+
+
+@dataclass
+class Fields(CodeFields):
     """What an image is made from. A mask says which keys sign the header: of the boot loader's keys
     for the vendor header, of the vendor's for the firmware header."""
 
     v: int
-    expiry: int
+    vendor_expiry: int
     vendor_version: bytes
     m: int
     keys: list
@@ -34,19 +48,11 @@ class Fields:
     string: bytes
     picture: bytes
     vendor_mask: int
-    firmware_expiry: int
-    version: bytes
-    fix: bytes
-    code: bytes
     firmware_mask: int
 
     def __str__(self):
         return (f"n {len(self.keys)}, string of {len(self.string)}, picture of"
                 f" {len(self.picture)}, v {self.v}, code of {len(self.code)}")
-
-    def versions(self):
-        """Version and fix version as words."""
-        return [int.from_bytes(version, "little") for version in (self.version, self.fix)]
 
     def picture_start(self):
         string_end = 32 + 32 * len(self.keys) + 1 + len(self.string)
@@ -216,12 +222,12 @@ def write(fields, picture, vendor_seal=UNSIGNED, firmware_seal=UNSIGNED):
     keys = b"".join(fields.keys)
     vendor = written(
         write_vendor, 65_536,
-        VendorNumbers(fields.expiry, *fields.vendor_version, fields.m, len(fields.keys),
+        VendorNumbers(fields.vendor_expiry, *fields.vendor_version, fields.m, len(fields.keys),
                       fields.vtrust, vendor_seal[0]),
         keys, len(keys), fields.string, len(fields.string), picture, len(picture), vendor_seal[1:])
     header = written(
         write_firmware, FIRMWARE_HEADER,
-        FirmwareNumbers(len(vendor), fields.firmware_expiry, *fields.versions(), firmware_seal[0]),
+        FirmwareNumbers(len(vendor), fields.expiry, *fields.versions(), firmware_seal[0]),
         fields.code, len(fields.code), firmware_seal[1:])
     return vendor + header + fields.code
 
@@ -236,25 +242,32 @@ def write_signed(fields, picture):
 
 # There
 
+def version_there(numbers):
+    return Container(zip(("major", "minor", "patch", "build"), numbers))
+
+
+def code_there(magic, fields, hashes, seal=UNSIGNED, signatures=3 * [bytes(64)], indexes=3 * [0]):
+    """A header in front of code, and the code, as trezorlib's structure."""
+    header = Container(
+        magic=magic, header_len=FIRMWARE_HEADER, expiry=fields.expiry,
+        code_length=len(fields.code), version=version_there(fields.version),
+        fix_version=version_there(fields.fix), hashes=hashes, v1_signatures=signatures,
+        v1_key_indexes=indexes, sigmask=seal[0], signature=seal[1:])
+    return Container(header=header, code=fields.code)
+
+
 def structure(fields, vendor_seal=UNSIGNED, firmware_seal=UNSIGNED):
     """The image as trezorlib's structure, with the code hashes that trezorlib computes."""
-    names = "major", "minor", "patch", "build"
     vendor_header = Container(
-        magic=b"TRZV", header_len=fields.v, expiry=fields.expiry,
-        version=Container(zip(names, fields.vendor_version)), sig_m=fields.m,
+        magic=b"TRZV", header_len=fields.v, expiry=fields.vendor_expiry,
+        version=version_there(fields.vendor_version), sig_m=fields.m,
         sig_n=len(fields.keys), pubkeys=fields.keys,
         trust=firmware.VendorTrust.parse(fields.vtrust.to_bytes(2, "little")),
         text=fields.string.decode(), image=firmware.Toif.parse(fields.picture),
         sigmask=vendor_seal[0], signature=vendor_seal[1:])
-    header = Container(
-        magic=firmware.HeaderType.FIRMWARE, header_len=FIRMWARE_HEADER,
-        expiry=fields.firmware_expiry, code_length=len(fields.code),
-        version=Container(zip(names, fields.version)),
-        fix_version=Container(zip(names, fields.fix)),
-        hashes=firmware.calculate_code_hashes(fields.code, fields.v + FIRMWARE_HEADER),
-        v1_signatures=3 * [bytes(64)], v1_key_indexes=3 * [0],
-        sigmask=firmware_seal[0], signature=firmware_seal[1:])
-    return Container(vendor_header=vendor_header, image=Container(header=header, code=fields.code))
+    hashes = firmware.calculate_code_hashes(fields.code, fields.v + FIRMWARE_HEADER)
+    image = code_there(firmware.HeaderType.FIRMWARE, fields, hashes, firmware_seal)
+    return Container(vendor_header=vendor_header, image=image)
 
 
 def build_signed(fields, fw):
