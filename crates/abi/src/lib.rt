@@ -2,6 +2,8 @@
 //
 // What is read here comes from a C caller, and what is told goes to one. The exported calls, in the
 // crate `thimmorel`, are made of these, of `abi_session` and of the library's own calls.
+#![tactic(auto)]
+
 pub mod answer;
 pub mod digest;
 pub mod headers;

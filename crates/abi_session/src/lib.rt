@@ -2,6 +2,8 @@
 //
 // The exported calls, in the crate `thimmorel`, are made of these, of `abi` and of the library's own
 // calls.
+#![tactic(auto)]
+
 pub mod asked;
 pub mod operation;
 pub mod record;

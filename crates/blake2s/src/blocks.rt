@@ -233,7 +233,7 @@ pub fn initial() -> State
 }
 
 // The bytes of a word, the least first.
-#[derive(Drop)]
+#[derive(Clone, Copy)]
 pub struct Bytes {
     pub b0: u8,
     pub b1: u8,

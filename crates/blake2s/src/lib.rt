@@ -5,6 +5,8 @@
 // `requires`. A block that lies in the lent bytes whole is read straight from them, the last one
 // too. Only a block with bytes from elsewhere, zeros or a word given apart, is copied, 64 bytes of
 // it.
+#![tactic(auto)]
+
 mod blocks;
 mod mixing;
 pub mod theorems;

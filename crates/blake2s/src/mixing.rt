@@ -12,7 +12,7 @@ ghost use Rattle.blake2s.specs.Words.{quad, firsts, seconds, thirds, work, block
 use std::num::wrapping_add_u32;
 
 // The eight words of the state between blocks.
-#[derive(Drop)]
+#[derive(Clone, Copy)]
 pub struct State {
     pub h0: u32,
     pub h1: u32,
@@ -25,7 +25,7 @@ pub struct State {
 }
 
 // The sixteen words of a block of the message.
-#[derive(Drop)]
+#[derive(Clone, Copy)]
 pub struct Block {
     pub m0: u32,
     pub m1: u32,
@@ -46,7 +46,7 @@ pub struct Block {
 }
 
 // The sixteen words of the work vector.
-#[derive(Drop)]
+#[derive(Clone, Copy)]
 pub struct Work {
     pub v0: u32,
     pub v1: u32,
@@ -67,7 +67,7 @@ pub struct Work {
 }
 
 // Four words of the work vector.
-#[derive(Drop)]
+#[derive(Clone, Copy)]
 pub struct Quad {
     pub a: u32,
     pub b: u32,
@@ -76,7 +76,7 @@ pub struct Quad {
 }
 
 // A word of each of three Gs.
-#[derive(Drop)]
+#[derive(Clone, Copy)]
 pub struct Triple {
     pub x: u32,
     pub y: u32,
@@ -84,7 +84,7 @@ pub struct Triple {
 }
 
 // The four words that each of three Gs changes.
-#[derive(Drop)]
+#[derive(Clone, Copy)]
 pub struct Triples {
     pub a: Triple,
     pub b: Triple,

@@ -67,7 +67,7 @@ pub fn call(which: usize, row: &[u8], s: Session, piece: &[u8], slot: &mut [u8])
 }
 
 // A call, and whether it left the record and the slot as they were.
-#[derive(Drop)]
+#[derive(Clone, Copy)]
 pub struct Attempt {
     pub turn: Turn,
     pub kept: bool,

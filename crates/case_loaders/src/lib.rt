@@ -1,5 +1,7 @@
 // Rows of `cases` that are about loaders: the check on a card and in the internal area, the digest to
 // be signed, and the choice between the two areas.
+#![tactic(auto)]
+
 use case_rows::rows::number;
 use case_rows::{build, rows, show};
 use loader::AreaInputs;

@@ -1,5 +1,7 @@
 // Rows of `cases` that are about the older model: the checks of a V2 image and of the pair, as a file and
 // in a slot, and the digests to be signed.
+#![tactic(auto)]
+
 mod images;
 
 use case_rows::rows::number;

@@ -9,7 +9,7 @@ use crate::rows::number;
 use octets::put;
 
 // The hashes that images are made with.
-#[derive(Drop)]
+#[derive(Clone, Copy)]
 pub enum Hash {
     Blake2s,
     Sha256,
@@ -24,7 +24,7 @@ pub fn digest_of(hash: Hash, bytes: &[u8]) -> [u8; 32] {
 
 // A family of images: where the header in front of the code stands, how many bytes chunk 1 has room for,
 // and the hash.
-#[derive(Drop)]
+#[derive(Clone, Copy)]
 pub struct Family {
     pub at: u32,
     pub first: u32,
@@ -84,7 +84,7 @@ pub fn put_word(b: &mut [u8], at: usize, x: u32) {
 
 // The places of an image: where its vendor header ends, its keys, its string from and to, its picture,
 // its code, and where the image ends.
-#[derive(Drop)]
+#[derive(Clone, Copy)]
 pub struct Layout {
     pub v: u32,
     pub keys: usize,

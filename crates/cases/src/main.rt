@@ -1,6 +1,8 @@
 // Cases of the whole library, a line each. The rows stand in the file `stdin`; the program writes each
 // as it stands and the answer behind it. Blank lines and lines that start with `#` are copied. What
 // each line must say is worked out by `tools/cases` from the specification alone.
+#![tactic(auto)]
+
 mod installs;
 mod records;
 

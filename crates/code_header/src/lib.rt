@@ -4,6 +4,8 @@
 // All of it is over the offset at which the header starts, so that every family of images that has
 // such a header asks the same tests: the firmware header stands at v, behind a vendor header, and that
 // of a loader at 0. A byte past the end reads as 0. No function has a `requires`, and nothing is written.
+#![tactic(auto)]
+
 pub mod layout;
 pub mod tests;
 pub mod theorems;

@@ -3,6 +3,8 @@
 // `erase_page` and `store_word` take the slot's bytes from the place on where they work, and touch the
 // first page or word of them alone. An operation as a value is what a board's driver is handed, to make
 // it on the real flash. What the power can leave of one that it cuts stands in `specs/`.
+#![tactic(auto)]
+
 pub mod theorems;
 
 ghost use Rattle.std.specs.Prelude.{◌≡◌};
@@ -10,7 +12,7 @@ ghost use Rattle.flash.specs.Flash.{first_page_erased, first_word_stored, starts
 ghost use Rattle.flash.specs.Operation.{word_of, bytes_of};
 
 // A word: its four bytes in order. (An enum holds no array.)
-#[derive(Drop)]
+#[derive(Clone, Copy)]
 pub struct Word {
     pub b0: u8,
     pub b1: u8,
@@ -19,7 +21,7 @@ pub struct Word {
 }
 
 // What is done to the flash: nothing, a page erased, counted from 0, or a word stored at an offset.
-#[derive(Drop)]
+#[derive(Clone, Copy)]
 pub enum Operation {
     Nothing,
     ErasePage(usize),

@@ -4,6 +4,8 @@
 // A step is a total test of the bytes: a field past the end reads as 0. So the check, the digest
 // questions and any later report ask the same tests, each in its own order. Every function here is
 // proved, no public function has a `requires`, and nothing is written.
+#![tactic(auto)]
+
 pub mod layout;
 pub mod steps;
 pub mod table;
@@ -12,7 +14,7 @@ pub mod trust;
 
 // What a check is given besides the bytes: the time, the key policy m of n for the vendor header,
 // and the signature chip's word on each header.
-#[derive(Drop)]
+#[derive(Clone, Copy)]
 pub struct Inputs {
     pub time: u32,
     pub m: u32,
@@ -23,7 +25,7 @@ pub struct Inputs {
 
 // A refusal: its number, its part (1 vendor header, 2 firmware header, 3 code, 0 otherwise), and
 // the chunk whose hash is wrong, or 0.
-#[derive(Drop)]
+#[derive(Clone, Copy)]
 pub struct Refusal {
     pub number: u32,
     pub part: u32,
@@ -31,7 +33,7 @@ pub struct Refusal {
 }
 
 // What a list of steps answers: the first failing step's refusal.
-#[derive(Drop)]
+#[derive(Clone, Copy)]
 pub enum Outcome {
     Pass,
     Refused(Refusal),

@@ -4,7 +4,7 @@ ghost use Rattle.header.specs.Trust.{trust_of};
 
 // The seconds to wait; whether the background is red, a click is needed, the vendor's string is
 // shown, and the pairing secret is allowed.
-#[derive(Drop)]
+#[derive(Clone, Copy)]
 pub struct Trust {
     pub seconds: u32,
     pub red: bool,

@@ -15,7 +15,7 @@ use octets::{digest_at, part, same_digest, span_of};
 use sha256::sha256;
 
 // The digest that the hashes of a family of images are.
-#[derive(Drop)]
+#[derive(Clone, Copy)]
 pub enum Hash {
     Blake2s,
     Sha256,

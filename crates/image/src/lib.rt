@@ -4,6 +4,8 @@
 // Any bytes, any inputs: an answer, and nothing is written. Nothing of the image is copied but its
 // table of sixteen hashes and the last, partial block of a chunk. The check of a slot is the boot
 // check.
+#![tactic(auto)]
+
 pub mod areas;
 pub mod chunks;
 pub mod theorems;
@@ -26,7 +28,7 @@ use header::{Inputs, Outcome, Refusal};
 use octets::{Span, byte_at, rest, span_of, starts_with};
 
 // A version: major, minor, patch, build.
-#[derive(Drop)]
+#[derive(Clone, Copy)]
 pub struct Version {
     pub major: u8,
     pub minor: u8,
@@ -36,7 +38,7 @@ pub struct Version {
 
 // What an acceptance tells: the vendor header's length, the code's, and the two versions of the
 // firmware header.
-#[derive(Drop)]
+#[derive(Clone, Copy)]
 pub struct Image {
     pub v: u32,
     pub codelen: u32,
@@ -45,7 +47,7 @@ pub struct Image {
 }
 
 // What a check answers.
-#[derive(Drop)]
+#[derive(Clone, Copy)]
 pub enum Answer {
     Accepted(Image),
     Rejected(Refusal),

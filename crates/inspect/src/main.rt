@@ -3,6 +3,8 @@
 //
 // It reads at most 65,536 bytes, on until they are full or the input ends. The check is the proved
 // library's; what is read and written is the C library's word.
+#![tactic(auto)]
+
 use header::{Inputs, Refusal};
 use image::{Answer, check_file};
 use libc::{STDIN_FILENO, STDOUT_FILENO};

@@ -7,6 +7,8 @@
 // erase, and the boot check refuses it.
 //
 // The calls here write a slot in memory. Those of `plans` read the slot and hand the operation back.
+#![tactic(auto)]
+
 pub mod plans;
 pub mod record;
 

@@ -12,7 +12,7 @@ use image::Answer;
 use octets::part;
 
 // The card's loader; the internal one; or none, with the refusal of the internal area.
-#[derive(Drop)]
+#[derive(Clone, Copy)]
 pub enum Choice {
     Card,
     Internal,

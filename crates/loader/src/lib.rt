@@ -3,6 +3,8 @@
 //
 // A loader is a header of 1,024 bytes, laid out like the firmware header, and code, all of it in chunk
 // 1. There is no vendor header. Any bytes, any inputs: an answer, and nothing is written.
+#![tactic(auto)]
+
 pub mod choice;
 pub mod theorems;
 
@@ -28,7 +30,7 @@ use signing::Digest;
 
 // What the checks are given besides the bytes: the time, the key policy m of n, and the signature
 // chip's word on the card's loader and on the internal one. Each check asks its own verdict alone.
-#[derive(Drop)]
+#[derive(Clone, Copy)]
 pub struct AreaInputs {
     pub time: u32,
     pub m: u32,

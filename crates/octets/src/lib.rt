@@ -3,6 +3,8 @@
 // Every reader is total: a byte past the end reads as 0, a part has as many bytes as there are, a
 // difference stops at 0. So no caller has to test a length first, and no reader has a `requires`.
 // The functions of `put` that write have one: their callers, the writers, make sure of the room.
+#![tactic(auto)]
+
 pub mod put;
 pub mod theorems;
 
@@ -10,7 +12,7 @@ ghost use Rattle.std.specs.Prelude.{◌≡◌, ◌+◌, ◌-◌, ◌≤◌, leng
 ghost use Rattle.octets.specs.Read.{u16_at, u32_at, between, span_of, bytes_at, all_are, starts_with, same, ones_of, bit_at_or_above};
 
 // Where an area of the bytes stands: from an offset up to another.
-#[derive(Drop)]
+#[derive(Clone, Copy)]
 pub struct Span {
     pub from: usize,
     pub to: usize,

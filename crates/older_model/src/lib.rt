@@ -5,6 +5,8 @@
 // of 256 bytes, which is the official pair. Each form has its own calls. The digest is SHA-256. Each
 // header has three signatures, and three indexes that say by which keys of a key sheet. Any bytes,
 // any inputs: an answer, and nothing is written.
+#![tactic(auto)]
+
 pub mod digest;
 mod steps;
 mod table;
@@ -21,7 +23,7 @@ use image::{Answer, accepted_part, answer_at};
 use table::{alone_headers, pair_headers, then_code};
 
 // The signature chip's word on the three signatures of a header, in their order.
-#[derive(Drop)]
+#[derive(Clone, Copy)]
 pub struct Verdicts {
     pub one: bool,
     pub two: bool,
@@ -30,7 +32,7 @@ pub struct Verdicts {
 
 // What the checks are given besides the bytes: the time, the number of keys in the key sheet, and the
 // verdicts on each header. A check of a V2 header by itself does not ask those on a legacy header.
-#[derive(Drop)]
+#[derive(Clone, Copy)]
 pub struct OlderInputs {
     pub time: u32,
     pub keys: u32,

@@ -8,7 +8,7 @@ use octets::put::put_bytes;
 use sessions::Session;
 
 // Which words of a page a cut leaves erased: those at even places, at odd ones, both or neither.
-#[derive(Drop)]
+#[derive(Clone, Copy)]
 struct Torn {
     even: bool,
     odd: bool,

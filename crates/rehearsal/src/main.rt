@@ -7,6 +7,8 @@
 // the refusal 1 and the new image can show is proved (`sessions`, `done_means_landed`). This
 // program lets it be watched. Close answers Done only if every erase and every fill was taken, so its
 // answer is the one that is looked at.
+#![tactic(auto)]
+
 mod cuts;
 mod images;
 mod table;

@@ -9,7 +9,7 @@ use sessions::Session;
 
 // What the signer does with the bytes: 0 and the version that it starts, or the number with which it
 // refuses.
-#[derive(Drop)]
+#[derive(Clone, Copy)]
 pub struct Start {
     pub number: u32,
     pub major: u8,
@@ -19,7 +19,7 @@ pub struct Start {
 
 // Calls in a row after which the next start is the same: the first, the last, and that start. None
 // where the last is 0.
-#[derive(Drop)]
+#[derive(Clone, Copy)]
 pub struct Run {
     pub first: usize,
     pub last: usize,

@@ -3,6 +3,8 @@
 //
 // No code stands here but the types. The calls are those of `installer`, each promised to give what
 // is defined here.
+#![tactic(auto)]
+
 pub mod theorems;
 
 use flash::Operation;
@@ -14,7 +16,7 @@ use signing::places::Signature;
 // erased, bytes taken, operations made since begin, the file's first word, and the word in progress.
 // The phase is 0 if the session is over, 1 if it is open, and 2 if a close has accepted the file and
 // word 0 is to be confirmed. Any other number is no phase.
-#[derive(Drop)]
+#[derive(Clone, Copy)]
 pub struct Session {
     pub phase: u32,
     pub slot: usize,
@@ -29,7 +31,7 @@ pub struct Session {
 // What a call answers. Accepted is a close over a slot that is only read: the file is accepted, and
 // word 0 is to be stored. Refused is the installer's own refusal, by its number, and Rejected is one
 // of the check, which a close passes on.
-#[derive(Drop)]
+#[derive(Clone, Copy)]
 pub enum Reply {
     Begun,
     Erased,
@@ -41,14 +43,14 @@ pub enum Reply {
 }
 
 // The record and the answer that a call gives.
-#[derive(Drop)]
+#[derive(Clone, Copy)]
 pub struct Turn {
     pub session: Session,
     pub reply: Reply,
 }
 
 // The record and the answer that a call gives, and the operation that the caller is to make.
-#[derive(Drop)]
+#[derive(Clone, Copy)]
 pub struct Plan {
     pub session: Session,
     pub reply: Reply,
@@ -56,14 +58,14 @@ pub struct Plan {
 }
 
 // What ask answers: both digest questions over the full file.
-#[derive(Drop)]
+#[derive(Clone, Copy)]
 pub struct Asked {
     pub vendor: Digest,
     pub firmware: Digest,
 }
 
 // What the chip needs for the signatures of the full file, as places in the slot.
-#[derive(Drop)]
+#[derive(Clone, Copy)]
 pub struct Signatures {
     pub vendor: Signature,
     pub firmware: Signature,

@@ -175,7 +175,7 @@ fn initial() -> State
 }
 
 // The bytes of a word, the most significant first.
-#[derive(Drop)]
+#[derive(Clone, Copy)]
 pub struct Bytes {
     pub b0: u8,
     pub b1: u8,

@@ -4,6 +4,8 @@
 // definition in `specs/Fips180.antt` on any bytes of any length: no public function has a
 // `requires`. A block that lies in the lent bytes whole is read straight from them. Only the blocks
 // that hold what follows the last whole one, zeros and padding, are copied, 64 bytes at a time.
+#![tactic(auto)]
+
 mod blocks;
 mod mixing;
 pub mod theorems;

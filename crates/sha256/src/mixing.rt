@@ -10,7 +10,7 @@ ghost use Rattle.sha256.specs.Words.{state, quad, block, sixteen, two, sixteen_a
 use std::num::wrapping_add_u32;
 
 // The eight words of the hash value, and the working variables a to h.
-#[derive(Drop)]
+#[derive(Clone, Copy)]
 pub struct State {
     pub a: u32,
     pub b: u32,
@@ -23,7 +23,7 @@ pub struct State {
 }
 
 // Four words of a block or of the schedule.
-#[derive(Drop)]
+#[derive(Clone, Copy)]
 pub struct Quad {
     pub a: u32,
     pub b: u32,
@@ -32,7 +32,7 @@ pub struct Quad {
 }
 
 // The sixteen words of a block, or sixteen words of the schedule.
-#[derive(Drop)]
+#[derive(Clone, Copy)]
 pub struct Block {
     pub q0: Quad,
     pub q1: Quad,
@@ -41,7 +41,7 @@ pub struct Block {
 }
 
 // The working variables after sixteen rounds, and the words of the schedule that these took.
-#[derive(Drop)]
+#[derive(Clone, Copy)]
 pub struct Mixed {
     pub v: State,
     pub w: Block,

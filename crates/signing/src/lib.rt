@@ -5,6 +5,8 @@
 // verdict and no code. Where the shape is wrong, the first failing step's refusal comes back and no
 // digest: 32 zeros. Each is also answered with the first word of the bytes given apart. `places` tells
 // what a chip needs beside the digest.
+#![tactic(auto)]
+
 pub mod places;
 pub mod theorems;
 
@@ -25,7 +27,7 @@ use header::table::{firmware_shape, refuse, vendor_shape};
 use octets::{minus, part, starts_with};
 
 // Pass and the digest, or the refusal and zeros.
-#[derive(Drop)]
+#[derive(Clone, Copy)]
 pub struct Digest {
     pub outcome: Outcome,
     pub digest: [u8; 32],

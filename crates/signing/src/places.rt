@@ -13,7 +13,7 @@ use octets::{Span, minus, starts_with};
 // Where the sigmask and the signature of a header stand; and for the firmware header, where the
 // vendor's keys stand, and that exactly m of these n must sign. For the vendor header there are no keys
 // here, and m and n are 0: its keys and policy are the caller's own.
-#[derive(Drop)]
+#[derive(Clone, Copy)]
 pub struct Signature {
     pub mask: Span,
     pub sig: Span,

@@ -14,7 +14,7 @@ use flash::Operation;
 use installer::plans::plan_fill;
 
 // The number that the call returns, and the operation that is to be made.
-#[derive(Drop)]
+#[derive(Clone, Copy)]
 pub struct Filled {
     pub number: u32,
     pub operation: Operation,

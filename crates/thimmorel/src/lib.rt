@@ -2,6 +2,8 @@
 //
 // An exported function is thin. It calls the proved library, tells the answer by `abi` and
 // `abi_session`, and carries the same promise. A struct of the header is an array here.
+#![tactic(auto)]
+
 mod check;
 mod digests;
 mod filling;

@@ -8,6 +8,8 @@
 // SHA-256: NIST's examples for FIPS 180-4, of one block, of two blocks, and the additional ones; the
 // empty string, and one million letters a. NIST's last three examples are left out: they have
 // 536,870,912 bytes and more.
+#![tactic(auto)]
+
 ghost use Rattle.std.specs.Prelude.{◌+◌, ◌≤◌};
 
 use libc::STDOUT_FILENO;

@@ -3,6 +3,8 @@
 // A writer answers the header's length, or a refusal's number. A refused call changes no byte of the
 // output, and a successful one none behind the header. Any lengths get an answer: each is tested
 // against its limit before it is added to another.
+#![tactic(auto)]
+
 pub mod theorems;
 
 ghost use Rattle.std.specs.Prelude.{◌≡◌, ◌+◌, ◌≤◌, ◌*◌, length, ltb};
@@ -26,7 +28,7 @@ use octets::part;
 use octets::put::{byte0, byte1, byte2, byte3, put_byte, put_bytes, put_zeros};
 
 // The numbers of a vendor header: m of n is what its keys ask of a firmware header.
-#[derive(Drop)]
+#[derive(Clone, Copy)]
 pub struct Vendor {
     pub expiry: u32,
     pub major: u8,
@@ -38,7 +40,7 @@ pub struct Vendor {
 }
 
 // The numbers of a firmware header.
-#[derive(Drop)]
+#[derive(Clone, Copy)]
 pub struct Firmware {
     pub expiry: u32,
     pub version: Version,
@@ -47,7 +49,7 @@ pub struct Firmware {
 }
 
 // A writer's answer: the header's length, or the number with which it refused.
-#[derive(Drop)]
+#[derive(Clone, Copy)]
 pub enum Written {
     Header(usize),
     Not(u32),
