@@ -23,7 +23,10 @@ OWN_USE = re.compile(r"use Rattle\.(\w+)\.([\w.+'-]+)\.\{([^}]*)\}")
 
 
 # Lemmas that would have the name of the definition that they speak of.
-CLASHES = {"run-at", "bytes-at", "word-of"}
+CLASHES = {
+    "bytes-at", "erased-bytes", "firmware-places", "hash-of", "in-first-word", "legacy-magic-missing", "length-bytes", "magic-missing",
+    "run-at", "signed-firmware", "signed-vendor", "to-string", "vendor-expiry", "vendor-len", "vendor-places", "word-of", "word-stored",
+}
 
 
 def snake(name):

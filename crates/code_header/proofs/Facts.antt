@@ -90,8 +90,8 @@ module _ (b : List ℕ) (at : ℕ) (letters : List ℕ) (four : length letters �
   pub magic_passes : take 4 (drop at b) ≡ letters → magic_missing_at b at letters ≡ false
   magic_passes h = rw (magic_is, h, starts_self)
 
-  pub magic_missing : (take 4 (drop at b) ≡ letters → ⊥) → magic_missing_at b at letters ≡ true
-  magic_missing h = go (magic_missing_at b at letters) refl
+  pub magic_missing_lem : (take 4 (drop at b) ≡ letters → ⊥) → magic_missing_at b at letters ≡ true
+  magic_missing_lem h = go (magic_missing_at b at letters) refl
     where
       go : (t : Bool) → magic_missing_at b at letters ≡ t → magic_missing_at b at letters ≡ true
       go true e = e

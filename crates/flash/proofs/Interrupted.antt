@@ -63,13 +63,13 @@ length_choice zero left = refl
 length_choice (suc n) left = ap suc (length_choice n (drop 4 left))
 
 -- a word that tests as erased is four erased bytes
-erased_bytes : (b : List ℕ) → starts_erased b ≡ true → take 4 b ≡ erased_bytes 4
+erased_bytes_lem : (b : List ℕ) → starts_erased b ≡ true → take 4 b ≡ erased_bytes 4
 unfolding erased_bytes
-erased_bytes [] h = absurd (true≢false (sym h ∙ cut_not_erased [] (omega arith)))
-erased_bytes (x ∷ []) h = absurd (true≢false (sym h ∙ cut_not_erased (x ∷ []) (omega arith)))
-erased_bytes (x ∷ y ∷ []) h = absurd (true≢false (sym h ∙ cut_not_erased (x ∷ y ∷ []) (omega arith)))
-erased_bytes (x ∷ y ∷ z ∷ []) h = absurd (true≢false (sym h ∙ cut_not_erased (x ∷ y ∷ z ∷ []) (omega arith)))
-erased_bytes (x ∷ y ∷ z ∷ w ∷ rest) h = go (eqb x 255) refl (eqb y 255) refl (eqb z 255) refl (eqb w 255) refl
+erased_bytes_lem [] h = absurd (true≢false (sym h ∙ cut_not_erased [] (omega arith)))
+erased_bytes_lem (x ∷ []) h = absurd (true≢false (sym h ∙ cut_not_erased (x ∷ []) (omega arith)))
+erased_bytes_lem (x ∷ y ∷ []) h = absurd (true≢false (sym h ∙ cut_not_erased (x ∷ y ∷ []) (omega arith)))
+erased_bytes_lem (x ∷ y ∷ z ∷ []) h = absurd (true≢false (sym h ∙ cut_not_erased (x ∷ y ∷ z ∷ []) (omega arith)))
+erased_bytes_lem (x ∷ y ∷ z ∷ w ∷ rest) h = go (eqb x 255) refl (eqb y 255) refl (eqb z 255) refl (eqb w 255) refl
   where
     go : (a : Bool) → eqb x 255 ≡ a → (b : Bool) → eqb y 255 ≡ b → (c : Bool) → eqb z 255 ≡ c → (d : Bool) → eqb w 255 ≡ d → x ∷ y ∷ z ∷ w ∷ [] ≡ 255 ∷ 255 ∷ 255 ∷ 255 ∷ []
     go true p true q true r true s = rw (eqb-true x 255 p, eqb-true y 255 q, eqb-true z 255 r, eqb-true w 255 s)
@@ -82,7 +82,7 @@ torn_first : (b left : List ℕ) → (take 4 left ≡ take 4 b) ⊎ (take 4 left
 torn_first b left h = go (starts_erased left) refl h
   where
     go : (s : Bool) → starts_erased left ≡ s → (take 4 left ≡ take 4 b) ⊎ (take 4 left ≡ erased_bytes 4) → cond (starts_erased left) (erased_bytes 4) (take 4 b) ≡ take 4 left
-    go true e h = rw e (sym (erased_bytes left e))
+    go true e h = rw e (sym (erased_bytes_lem left e))
     go false e (inl h) = rw e (sym h)
     go false e (inr h) = absurd (true≢false (sym (word_erased left h) ∙ e))
 

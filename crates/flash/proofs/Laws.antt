@@ -54,9 +54,9 @@ four_elements (a ∷ b ∷ c ∷ d ∷ []) e = refl
 four_elements (a ∷ b ∷ c ∷ d ∷ x ∷ r) e = absurd (omega arith)
 
 -- four bytes stored one after the other are the word in front
-pub word_stored : (w d : List ℕ) → length w ≡ 4 → 4 ≤ length d
+pub word_stored_lem : (w d : List ℕ) → length w ≡ 4 → 4 ≤ length d
     → set (set (set (set d 0 (get_or w 0 0)) 1 (get_or w 1 0)) 2 (get_or w 2 0)) 3 (get_or w 3 0) ≡ w ++ drop 4 d
-word_stored w d e h =
+word_stored_lem w d e h =
     let bytes : List ℕ = get_or w 0 0 ∷ get_or w 1 0 ∷ get_or w 2 0 ∷ get_or w 3 0 ∷ [] in
     sets-eq bytes d 0 h ∙ ap (λ (v : List ℕ). v ++ drop 4 d) (sym (four_elements w e))
 

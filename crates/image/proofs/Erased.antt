@@ -27,15 +27,15 @@ use Rattle.image.proofs.Alike.{ReadByCheck, extent_rows_alike, hash_rows_alike, 
 use Rattle.header.proofs.WordApart.{starts_within}
 
 -- neither 255 nor 0 is the magic's first letter
-magic_missing : (b : List ℕ) → (take 4 b ≡ replicate 4 255) ⊎ (take 4 b ≡ replicate 4 0) → vendor_magic_missing b ≡ true
+magic_missing_lem : (b : List ℕ) → (take 4 b ≡ replicate 4 255) ⊎ (take 4 b ≡ replicate 4 0) → vendor_magic_missing b ≡ true
 unfolding vendor_magic_missing
-magic_missing [] h = refl
-magic_missing (x ∷ b) (inl h) = let e : x ≡ 255 = cc in rw e
-magic_missing (x ∷ b) (inr h) = let e : x ≡ 0 = cc in rw e
+magic_missing_lem [] h = refl
+magic_missing_lem (x ∷ b) (inl h) = let e : x ≡ 255 = cc in rw e
+magic_missing_lem (x ∷ b) (inr h) = let e : x ≡ 0 = cc in rw e
 
 pub erased_or_zero_refused : ErasedOrZeroRefused
 unfolding check_slot check_rows header_rows first_failing
-erased_or_zero_refused b given h = rw (magic_missing b h)
+erased_or_zero_refused b given h = rw (magic_missing_lem b h)
 
 -- erased bytes are erased
 pub all_erased : (n : ℕ) → all_are 255 (replicate n 255) ≡ true

@@ -123,13 +123,13 @@ hash_at (suc n) b at k h =
     rw e (get_or_at (hashes_at n b at) (bytes_at 32 b (at + 32 * n)) [] [] n l))
     (split k n)
 
-pub hash_of : (digest : List ℕ → List ℕ) (n first : ℕ) (code : List ℕ) (k : ℕ) → k < n → get_or (hashes_of digest n first code) k [] ≡ hash_of digest (chunk first k code)
+pub hash_of_lem : (digest : List ℕ → List ℕ) (n first : ℕ) (code : List ℕ) (k : ℕ) → k < n → get_or (hashes_of digest n first code) k [] ≡ hash_of digest (chunk first k code)
 unfolding hashes_of
-hash_of digest zero first code k h = absurd (omega arith)
-hash_of digest (suc n) first code k h =
+hash_of_lem digest zero first code k h = absurd (omega arith)
+hash_of_lem digest (suc n) first code k h =
     let l = hashes_of_length digest n first code in
     ⊎_elim
-    (λ (g : k < n). get_or-append (hashes_of digest n first code) _ [] k (omega arith) ∙ hash_of digest n first code k g)
+    (λ (g : k < n). get_or-append (hashes_of digest n first code) _ [] k (omega arith) ∙ hash_of_lem digest n first code k g)
     (λ (g : n ≤ k).
     let e : k ≡ n = omega arith in
     rw e (get_or_at (hashes_of digest n first code) (hash_of digest (chunk first n code)) [] [] n l))
@@ -251,7 +251,7 @@ module _ (digest : List ℕ → List ℕ) (first : ℕ) (code : List ℕ) (table
 -- of an image
 pub hashes_pass : (b : List ℕ) → hash_table b ≡ hashes_of blake2s_of 16 (first_room (vendor_len b)) (code_of b) → first_failing (hash_rows b) ≡ Pass
 unfolding hash_rows
-hashes_pass b e = chunk_rows_pass _ _ _ _ 0 16 (λ i g l. sym (rw e (hash_of blake2s_of 16 (first_room (vendor_len b)) (code_of b) i (omega arith))))
+hashes_pass b e = chunk_rows_pass _ _ _ _ 0 16 (λ i g l. sym (rw e (hash_of_lem blake2s_of 16 (first_room (vendor_len b)) (code_of b) i (omega arith))))
 
 pub hashes_right : (b : List ℕ) → first_failing (hash_rows b) ≡ Pass → hash_table b ≡ hashes_of blake2s_of 16 (first_room (vendor_len b)) (code_of b)
 unfolding hash_rows
@@ -263,7 +263,7 @@ hashes_right b h =
     (hash_table b)
     (hashes_of blake2s_of 16 (first_room (vendor_len b)) (code_of b))
     (l ∙ sym m)
-    (λ i g. sym (chunk_rows_right _ _ _ _ 0 16 h i (omega arith) (omega arith)) ∙ sym (hash_of blake2s_of 16 (first_room (vendor_len b)) (code_of b) i (omega arith)))
+    (λ i g. sym (chunk_rows_right _ _ _ _ 0 16 h i (omega arith) (omega arith)) ∙ sym (hash_of_lem blake2s_of 16 (first_room (vendor_len b)) (code_of b) i (omega arith)))
 
 -- ---- refusals of S23 have a number
 

@@ -25,7 +25,7 @@ use Rattle.image.specs.Check.{check_file, check_slot}
 use Rattle.image.specs.declared.Image.{Image}
 use Rattle.image.specs.declared.Answer.{Answer}
 use Rattle.image.specs.declared.Answer.TheVariants.{Accepted}
-use Rattle.image.proofs.Hashes.{start_at, hash_of}
+use Rattle.image.proofs.Hashes.{start_at, hash_of_lem}
 use Rattle.image.proofs.Facts.{Sound, sound, file_rows_pass, file_told, file_length}
 use Rattle.image.proofs.Alike.{hashes_at_alike}
 use Rattle.image.proofs.Parts.{part_taken, slot_rows_pass, slot_told}
@@ -82,9 +82,9 @@ module _ (b c : List ℕ) (p : Sound b) (q : Sound c) (len : vendor_len b ≡ ve
       → hash_of blake2s_of (chunk (first_room (vendor_len b)) k (code_bytes b (image_of b))) ≡ hash_of blake2s_of (chunk (first_room (vendor_len b)) k (code_bytes c (image_of c)))
   hash_same k h =
       ap (λ (s : List ℕ). hash_of blake2s_of (chunk (first_room (vendor_len b)) k s)) (sym (code_is b))
-      ∙ sym (hash_of blake2s_of 16 (first_room (vendor_len b)) (code_of b) k h)
+      ∙ sym (hash_of_lem blake2s_of 16 (first_room (vendor_len b)) (code_of b) k h)
       ∙ ap (λ (t : List (List ℕ)). get_or t k []) (sym p.hashes ∙ table_same ∙ q.hashes)
-      ∙ hash_of blake2s_of 16 (first_room (vendor_len c)) (code_of c) k h
+      ∙ hash_of_lem blake2s_of 16 (first_room (vendor_len c)) (code_of c) k h
       ∙ ap₂ (λ (v : ℕ) (s : List ℕ). hash_of blake2s_of (chunk (first_room v) k s)) (sym len) (code_is c)
 
   codes_same : (Same : Type 0) → (code_bytes b (image_of b) ≡ code_bytes c (image_of c) → Same)

@@ -38,9 +38,9 @@ magic_passes : (b : List ℕ) → take 4 b ≡ TRZB → magic_missing b ≡ fals
 unfolding magic_missing
 magic_passes b h = facts.magic_passes b 0 TRZB refl h
 
-magic_missing : (b : List ℕ) → (take 4 b ≡ TRZB → ⊥) → magic_missing b ≡ true
+magic_missing_lem : (b : List ℕ) → (take 4 b ≡ TRZB → ⊥) → magic_missing b ≡ true
 unfolding magic_missing
-magic_missing b h = facts.magic_missing b 0 TRZB refl h
+magic_missing_lem b h = facts.magic_missing_lem b 0 TRZB refl h
 
 -- ---- the header
 
@@ -73,7 +73,7 @@ question_asks b h = header_is b (pass_head _ _ _ h) (shaped b (pass_tail _ _ _ h
 
 question_none : (b : List ℕ) → (take 4 b ≡ TRZB → ⊥) → first_failing (digest_rows b) ≡ Refused (record { number = 1; part = 2; chunk = 0 })
 unfolding digest_rows first_failing
-question_none b h = rw (magic_missing b h)
+question_none b h = rw (magic_missing_lem b h)
 
 pub loader_headers_answer : LoaderHeadersAnswer
 unfolding loader_digest between
@@ -153,7 +153,7 @@ module _ (x : ℕ) (b : List ℕ) (given : AreaInputs) (verdict : Bool) where
 
   no_magic : (take 4 b ≡ TRZB → ⊥) → check_area x b given verdict ≡ Rejected (record { number = 1; part = 2; chunk = 0 })
   unfolding check_area area_rows first_failing
-  no_magic h = rw (magic_missing b h)
+  no_magic h = rw (magic_missing_lem b h)
 
 -- ---- both areas
 

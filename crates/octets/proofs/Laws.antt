@@ -106,10 +106,10 @@ u32_rest s at e f g h i =
 -- ---- the n bytes at an offset
 
 -- they are n, and a part where there are so many
-pub length_bytes : (n : ℕ) (b : List ℕ) (at : ℕ) → length (bytes_at n b at) ≡ n
+pub length_bytes_lem : (n : ℕ) (b : List ℕ) (at : ℕ) → length (bytes_at n b at) ≡ n
 unfolding bytes_at
-length_bytes zero b at = refl
-length_bytes (suc n) b at = rw (length-append, length_bytes n b at) (omega arith)
+length_bytes_lem zero b at = refl
+length_bytes_lem (suc n) b at = rw (length-append, length_bytes_lem n b at) (omega arith)
 
 pub bytes_between : (n : ℕ) (b : List ℕ) (at : ℕ) → at + n ≤ length b → bytes_at n b at ≡ between at (at + n) b
 unfolding bytes_at

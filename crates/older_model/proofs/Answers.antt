@@ -19,7 +19,7 @@ use Rattle.older_model.specs.Steps.{legacy_len, code_len_other}
 use Rattle.older_model.specs.Check.{legacy_shape, v2_shape}
 use Rattle.older_model.specs.Digest.{signed_v2, v2_digest, pair_v2_digest, signed_legacy, signed_legacy_cut, pair_legacy_digest}
 use Rattle.older_model.specs.Theorems.{LegacyHeader, V2Header, v2_signed, OlderHeadersAnswer}
-use Rattle.older_model.proofs.Headers.{v2_is, v2_other, v2_passes, v2_unlinked, v2_magic_missing, legacy_is, legacy_passes, legacy_magic_missing, linked_is, linked_passes, linked_fails}
+use Rattle.older_model.proofs.Headers.{v2_is, v2_other, v2_passes, v2_unlinked, v2_magic_missing, legacy_is, legacy_passes, legacy_magic_missing_lem, linked_is, linked_passes, linked_fails}
 
 -- ---- what is signed
 
@@ -54,7 +54,7 @@ both_refused b l h = sym (stage_passes _ _ (sym (legacy_passes b l)) refl (sym h
 
 -- its magic is asked first
 legacy_first : (b : List ℕ) (more : List Row) → (take 4 b ≡ 84 ∷ 82 ∷ 90 ∷ 82 ∷ [] → ⊥) → first_failing (legacy_shape b ++ more) ≡ Refused (record { number = 1; part = 1; chunk = 0 })
-legacy_first b more h = sym (stage_fails (legacy_shape b) more (sym (legacy_magic_missing b h)) refl refl)
+legacy_first b more h = sym (stage_fails (legacy_shape b) more (sym (legacy_magic_missing_lem b h)) refl refl)
 
 legacy_pass : (b : List ℕ) → LegacyHeader b → 256 + u32_at b 4 ≤ length b → first_failing (legacy_shape b ++ (step (signed_legacy_cut b) 2 3 ∷ [])) ≡ Pass
 unfolding signed_legacy_cut

@@ -13,7 +13,7 @@ use Rattle.octets.specs.Rounding.{multiple_of}
 use Rattle.octets.proofs.Laws.{and_left, and_right, or_left, or_right}
 use Rattle.code_header.specs.Layout.{code_len_at}
 use Rattle.code_header.specs.Tests.{code_len_outside}
-use Rattle.code_header.proofs.Facts.{code_len_inside, inside_code_len, magic_stands, magic_passes, magic_missing}
+use Rattle.code_header.proofs.Facts.{code_len_inside, inside_code_len, magic_stands, magic_passes, magic_missing_lem}
 use Rattle.header.specs.Table.{refusal, first_failing}
 use Rattle.header.specs.declared.Outcome.TheVariants.{Pass, Refused}
 use Rattle.header.proofs.Rows.{passes_here, fails_here, ends, pass_head, pass_tail}
@@ -84,14 +84,14 @@ module _ (other : Bool) (b : List ℕ) (at : ℕ) where
 
   pub v2_magic_missing : (take 4 (drop at b) ≡ TRZF → ⊥) → first_failing (v2_shape other b at) ≡ Refused (refusal 10 2)
   unfolding v2_shape
-  v2_magic_missing h = sym (fails_here _ _ (magic_missing b at TRZF refl h) refl)
+  v2_magic_missing h = sym (fails_here _ _ (magic_missing_lem b at TRZF refl h) refl)
 
 -- ---- the legacy header
 
 module _ (b : List ℕ) where
-  pub legacy_magic_missing : (take 4 b ≡ TRZR → ⊥) → first_failing (legacy_shape b) ≡ Refused (refusal 1 1)
+  pub legacy_magic_missing_lem : (take 4 b ≡ TRZR → ⊥) → first_failing (legacy_shape b) ≡ Refused (refusal 1 1)
   unfolding legacy_shape legacy_magic_missing
-  legacy_magic_missing h = sym (fails_here _ _ (magic_missing b 0 TRZR refl h) refl)
+  legacy_magic_missing_lem h = sym (fails_here _ _ (magic_missing_lem b 0 TRZR refl h) refl)
 
   legacy_zeros : between 11 64 b ≡ take 53 (drop 11 b)
   legacy_zeros = part_taken b 11 53 11 64 refl refl

@@ -9,7 +9,7 @@ use lib.Dec.{eqb}
 use borrow.Author.Tests.{lt-ltb}
 use Rattle.octets.specs.Read.{u32_at}
 use Rattle.code_header.specs.Layout.{code_len_at, code_end_at}
-use Rattle.code_header.proofs.Facts.{inside_code_len, magic_passes, magic_missing, time_passes}
+use Rattle.code_header.proofs.Facts.{inside_code_len, magic_passes, magic_missing_lem, time_passes}
 use Rattle.header.specs.Table.{Row, refusal, first_failing, extent_rows_at}
 use Rattle.header.specs.declared.Refusal.{Refusal}
 use Rattle.header.specs.declared.Outcome.TheVariants.{Pass, Refused}
@@ -30,7 +30,7 @@ use Rattle.older_model.proofs.Rows.{policy_passes, legacy_rows_pass}
 module _ (other t : Bool) (b : List ℕ) (at : ℕ) (given : OlderInputs) where
   pub v2_magic : (take 4 (drop at b) ≡ TRZF → ⊥) → Refused (refusal 10 2) ≡ first_failing (v2_rows other t b at given)
   unfolding v2_rows v2_shape
-  v2_magic h = fails_here _ _ (magic_missing b at TRZF refl h) refl
+  v2_magic h = fails_here _ _ (magic_missing_lem b at TRZF refl h) refl
 
   v2_indexes : V2Header b at → other ≡ false → Timely b at given → (ThreeKeys given.keys b (at + 0x2E0) → ⊥) → Refused (refusal 8 2) ≡ first_failing (v2_rows other t b at given)
   unfolding v2_rows v2_policy
@@ -91,7 +91,7 @@ pair_before =
 module _ (t : Bool) (b : List ℕ) (given : OlderInputs) where
   legacy_magic : KeySheet given.keys → (take 4 b ≡ TRZR → ⊥) → first_failing (pair_rows t b given) ≡ Refused (refusal 1 1)
   unfolding pair_rows legacy_rows legacy_shape legacy_magic_missing
-  legacy_magic s h = sym (passes_here _ _ (sheet_passes given.keys s) (fails_here _ _ (magic_missing b 0 TRZR refl h) refl))
+  legacy_magic s h = sym (passes_here _ _ (sheet_passes given.keys s) (fails_here _ _ (magic_missing_lem b 0 TRZR refl h) refl))
 
   -- a refusal of the legacy header's indexes or verdicts
   legacy_refused : {r : Refusal} → KeySheet given.keys → LegacyHeader b → Refused r ≡ first_failing (legacy_policy b given) → first_failing (pair_rows t b given) ≡ Refused r

@@ -77,8 +77,8 @@ module _ (found : List ℕ) (f : ℕ) (p : Point) (e : Filling found f p) (piece
       let l : whole_words (more p piece k) ≡ length (more p piece k) = omega arith in
       ap (λ (j : ℕ). take j (word_of p piece k)) z ∙ sym (ap (λ (j : ℕ). drop j (more p piece k)) l ∙ drop-length (more p piece k))
 
-  in_first_word : length p.past.given < 4 → in_first_word p.now.session ≡ true
-  in_first_word h = lt-ltb p.now.session.taken 4 (omega (arith, e.taken))
+  in_first_word_lem : length p.past.given < 4 → in_first_word p.now.session ≡ true
+  in_first_word_lem h = lt-ltb p.now.session.taken 4 (omega (arith, e.taken))
 
   past_first_word : 4 ≤ length p.past.given → in_first_word p.now.session ≡ false
   past_first_word h = le-ltb p.now.session.taken 4 (omega (arith, e.taken))
@@ -130,7 +130,7 @@ module _ (found : List ℕ) (f : ℕ) (p : Point) (e : Filling found f p) (piece
   fill_first_word : length p.past.given % 4 + k ≡ 4 → length p.past.given < 4 → Phase found f (filled_point p piece k)
   fill_first_word h q =
       let z : whole_words p.past.given ≡ 0 = omega arith in
-      rw (fill_allowed found f p e, eq-eqb (p.now.session.taken % 4 + k) 4 (omega (arith, e.taken)), in_first_word q)
+      rw (fill_allowed found f p e, eq-eqb (p.now.session.taken % 4 + k) 4 (omega (arith, e.taken)), in_first_word_lem q)
       (still_filling (word_of p piece k) p.now.slot 0
       (omega arith)
       (e.slot ∙ holding_opening p.past.given (take k piece) (length found) (omega arith) (omega (arith, length_given)))

@@ -5,7 +5,7 @@ use native.Mathlib.Decide.{dec_le}
 use lib.ListN.{length-replicate, get_or-replicate, get_or-append, get_or-eq_default}
 use lib.Seq.{get_or_at, set_at}
 use Rattle.octets.specs.Read.{bytes_at}
-use Rattle.octets.proofs.Laws.{length_bytes}
+use Rattle.octets.proofs.Laws.{length_bytes_lem}
 use Rattle.octets.proofs.Numbers.{word_of_lem}
 use Rattle.sha256.specs.Fips180.{at, word_of, bytes_of, words_of, block_at}
 
@@ -16,18 +16,18 @@ unfolding bytes_at
 bytes_at_lem zero b i j h = absurd (omega arith)
 bytes_at_lem (suc n) b i j h =
     elim (dec_le n j) [
-      | yes y ↦ let e : j ≡ n = omega arith in rw e (get_or_at (bytes_at n b i) (at b (i + n)) [] 0 n (length_bytes n b i))
-      | no y ↦ get_or-append (bytes_at n b i) (at b (i + n) ∷ []) 0 j (omega (arith, length_bytes n b i)) ∙ bytes_at_lem n b i j (omega arith)
+      | yes y ↦ let e : j ≡ n = omega arith in rw e (get_or_at (bytes_at n b i) (at b (i + n)) [] 0 n (length_bytes_lem n b i))
+      | no y ↦ get_or-append (bytes_at n b i) (at b (i + n) ∷ []) 0 j (omega (arith, length_bytes_lem n b i)) ∙ bytes_at_lem n b i j (omega arith)
     ]
 
 -- bytes are those at a place if each of them is
 pub bytes_are : (r b : List ℕ) (n i : ℕ) → length r ≡ n → ((j : ℕ) → j < n → at r j ≡ at b (i + j)) → r ≡ bytes_at n b i
 bytes_are r b n i l h =
-    ext_get_or 0 r (bytes_at n b i) (l ∙ sym (length_bytes n b i)) (λ j g. h j (omega arith) ∙ sym (bytes_at_lem n b i j (omega arith)))
+    ext_get_or 0 r (bytes_at n b i) (l ∙ sym (length_bytes_lem n b i)) (λ j g. h j (omega arith) ∙ sym (bytes_at_lem n b i j (omega arith)))
 
 -- places that hold the same bytes
 pub bytes_alike : (n : ℕ) (b : List ℕ) (i : ℕ) (c : List ℕ) (j : ℕ) → ((k : ℕ) → k < n → at b (i + k) ≡ at c (j + k)) → bytes_at n b i ≡ bytes_at n c j
-bytes_alike n b i c j h = bytes_are (bytes_at n b i) c n j (length_bytes n b i) (λ k g. bytes_at_lem n b i k g ∙ h k g)
+bytes_alike n b i c j h = bytes_are (bytes_at n b i) c n j (length_bytes_lem n b i) (λ k g. bytes_at_lem n b i k g ∙ h k g)
 
 bytes_split : (m n : ℕ) (b : List ℕ) (i : ℕ) → bytes_at (m + n) b i ≡ bytes_at m b i ++ bytes_at n b (i + m)
 unfolding bytes_at
@@ -48,7 +48,7 @@ unfolding bytes_at
 copied_more s i j h e =
     let z : 64 - j ≡ suc (64 - (j + 1)) = omega arith in
     rw (z, e, add-one j, append_assoc (bytes_at j s i) (at s (i + j) ∷ []) (replicate (64 - suc j) 0))
-    (set_at (bytes_at j s i) 0 (replicate (64 - suc j) 0) (at s (i + j)) j (length_bytes j s i))
+    (set_at (bytes_at j s i) 0 (replicate (64 - suc j) 0) (at s (i + j)) j (length_bytes_lem j s i))
 
 -- all is copied
 pub copied_all : (s : List ℕ) (i j : ℕ) → length s ≤ i + j → j ≤ 64 → bytes_at j s i ++ replicate (64 - j) 0 ≡ bytes_at 64 s i
@@ -62,12 +62,12 @@ pub bytes_set : {r : List ℕ} (s b : List ℕ) (n i x : ℕ) → i ≤ n → r 
 bytes_set {r} s b n i x h e f g = bytes_are r b 64 i long point
   where
     long : length r ≡ 64
-    long = ap length e ∙ length-set (bytes_at 64 s i) (n - i) x ∙ length_bytes 64 s i
+    long = ap length e ∙ length-set (bytes_at 64 s i) (n - i) x ∙ length_bytes_lem 64 s i
 
     there : (j : ℕ) → j < 64 → j ≡ n - i → at r j ≡ at b (i + j)
     there j l z =
         let y : i + (n - i) ≡ n = omega arith in
-        rw (e, z, y, f) (get_or-set_same (bytes_at 64 s i) (n - i) x 0 (omega (arith, length_bytes 64 s i)))
+        rw (e, z, y, f) (get_or-set_same (bytes_at 64 s i) (n - i) x 0 (omega (arith, length_bytes_lem 64 s i)))
 
     other : (j : ℕ) → j < 64 → (j ≡ n - i → ⊥) → at r j ≡ at b (i + j)
     other j l z = rw e (get_or-set_other (bytes_at 64 s i) (n - i) j x 0 z) ∙ bytes_at_lem 64 s i j l ∙ g (i + j) (λ y. z (omega arith))
@@ -89,7 +89,7 @@ word_at s i e f g h = rw (e, f, g, h, add-zero i)
 words_step : (n k : ℕ) (b : List ℕ) (i : ℕ) → words_of (suc n) (bytes_at (4 + k) b i) ≡ word_of (bytes_at 4 b i) ∷ words_of n (bytes_at k b (i + 4))
 unfolding words_of
 words_step n k b i =
-    let l : length (bytes_at 4 b i) ≡ 4 = length_bytes 4 b i in
+    let l : length (bytes_at 4 b i) ≡ 4 = length_bytes_lem 4 b i in
     rw (bytes_split 4 k b i, take_at (bytes_at 4 b i) (bytes_at k b (i + 4)) 4 l, drop_at (bytes_at 4 b i) (bytes_at k b (i + 4)) 4 l)
 
 words_none : (b : List ℕ) → words_of 0 b ≡ []

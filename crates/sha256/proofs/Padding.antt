@@ -5,7 +5,7 @@ use native.Mathlib.Decide.{dec_le}
 use lib.ListN.{length-replicate, get_or-append, get_or-eq_default}
 use lib.Seq.{get_or_at}
 use Rattle.octets.specs.Read.{bytes_at, all_are}
-use Rattle.octets.proofs.Laws.{length_bytes}
+use Rattle.octets.proofs.Laws.{length_bytes_lem}
 use Rattle.sha256.specs.Fips180.{at, bytes_of, zeros_between, length_bytes, padded, words_of, block_at, initial, compressed, absorbed, serialised, sha256_of}
 use Rattle.sha256.specs.Words.{zero_tailed, marker, block_count}
 use Rattle.sha256.specs.Theorems.{PaddedMessage, BlocksInPlace}
@@ -125,7 +125,7 @@ module _ (s : List ℕ) (n : ℕ) (most : length s ≤ n) where
   made_block : {b w : List ℕ} (i : ℕ) → b ≡ bytes_at 64 (zero_tailed n s ++ (marker ∷ [])) i → w ≡ block_at b 0 → w ≡ block_at (zero_tailed n s ++ (marker ∷ [])) i
   unfolding block_at
   made_block {b} i e f =
-      let l : length b ≡ 64 = ap length e ∙ length_bytes 64 (zero_tailed n s ++ (marker ∷ [])) i in
+      let l : length b ≡ 64 = ap length e ∙ length_bytes_lem 64 (zero_tailed n s ++ (marker ∷ [])) i in
       let m : b ≡ bytes_at 64 b 0 = bytes_are b b 64 0 l (λ j g. let z : 0 + j ≡ j = omega arith in rw z) in
       f ∙ ap (words_of 16) (sym m ∙ e)
 

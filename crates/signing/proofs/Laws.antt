@@ -79,16 +79,16 @@ module _ (w b : List ℕ) (l : length w ≡ 4) where
   unfolding u32_at
   word_len = rw (word_byte w b l 4 (omega arith), word_byte w b l 5 (omega arith), word_byte w b l 6 (omega arith), word_byte w b l 7 (omega arith))
 
-  signed_vendor : first_failing (vendor_shape b) ≡ Pass → signed_vendor (w ++ drop 4 b) ≡ w ++ zero_tailed (between 4 (mask_at (vendor_len b)) b)
+  signed_vendor_lem : first_failing (vendor_shape b) ≡ Pass → signed_vendor (w ++ drop 4 b) ≡ w ++ zero_tailed (between 4 (mask_at (vendor_len b)) b)
   unfolding signed_vendor between
-  signed_vendor p =
+  signed_vendor_lem p =
       let least = (vendor_shaped b p).size.least in
       let e : vendor_len b - 65 - 0 ≡ length w + (vendor_len b - 65 - 4) = omega arith in
       rw (word_len, e, take_past w (drop 4 b) (vendor_len b - 65 - 4)) (append_assoc w (take (vendor_len b - 65 - 4) (drop 4 b)) (replicate 65 0))
 
-  signed_firmware : first_failing (vendor_shape b) ≡ Pass → signed_firmware (w ++ drop 4 b) ≡ signed_firmware b
+  signed_firmware_lem : first_failing (vendor_shape b) ≡ Pass → signed_firmware (w ++ drop 4 b) ≡ signed_firmware b
   unfolding signed_firmware
-  signed_firmware p =
+  signed_firmware_lem p =
       let least = (vendor_shaped b p).size.least in
       rw (word_len) (ap zero_tailed (between_alike (shaped_word_alike w b l p) (vendor_len b) _ refl (λ i g h. le-leb 4 i (omega arith))))
 
@@ -108,8 +108,8 @@ module _ (w b : List ℕ) (l : length w ≡ 4) where
 
   pub vendor_apart : vendor_digest (w ++ drop 4 b) ≡ answered (first_failing (vendor_rows (not (starts_with TRZV w)) b)) (blake2s_of (w ++ zero_tailed (between 4 (mask_at (vendor_len b)) b)))
   unfolding vendor_digest
-  vendor_apart = answered_same _ _ _ _ vendor_rows_apart (λ p. ap blake2s_of (signed_vendor (vendor_rows_shape _ b p)))
+  vendor_apart = answered_same _ _ _ _ vendor_rows_apart (λ p. ap blake2s_of (signed_vendor_lem (vendor_rows_shape _ b p)))
 
   pub firmware_apart : firmware_digest (w ++ drop 4 b) ≡ answered (first_failing (firmware_rows (not (starts_with TRZV w)) b)) (blake2s_of (signed_firmware b))
   unfolding firmware_digest
-  firmware_apart = answered_same _ _ _ _ firmware_rows_apart (λ p. ap blake2s_of (signed_firmware (firmware_rows_shape _ b p)))
+  firmware_apart = answered_same _ _ _ _ firmware_rows_apart (λ p. ap blake2s_of (signed_firmware_lem (firmware_rows_shape _ b p)))

@@ -8,7 +8,7 @@ use native.Mathlib.Omega.{arith}
 use native.Mathlib.Nat.{add-zero}
 use lib.ListN.{length, get_or, take, drop}
 use Rattle.octets.specs.Read.{between, bytes_at, starts_with}
-use Rattle.octets.proofs.Laws.{between_none, bytes_between, length_bytes}
+use Rattle.octets.proofs.Laws.{between_none, bytes_between, length_bytes_lem}
 use Rattle.header.specs.Layout.{TRZV, vendor_len}
 use Rattle.header.specs.Steps.{vendor_magic_missing}
 use Rattle.header.specs.Table.{first_failing, vendor_shape, firmware_shape}
@@ -25,21 +25,21 @@ use Rattle.signing.proofs.Laws.{vendor_rows_shape, firmware_rows_shape, firmware
 
 -- v, m and n stand behind it
 module _ (w b : List ℕ) (l : length w ≡ 4) where
-  vendor_places : vendor_places (w ++ drop 4 b) ≡ vendor_places b
+  vendor_places_lem : vendor_places (w ++ drop 4 b) ≡ vendor_places b
   unfolding vendor_places
-  vendor_places = rw (word_len w b l)
+  vendor_places_lem = rw (word_len w b l)
 
-  firmware_places : firmware_places (w ++ drop 4 b) ≡ firmware_places b
+  firmware_places_lem : firmware_places (w ++ drop 4 b) ≡ firmware_places b
   unfolding firmware_places
-  firmware_places = rw (word_len w b l, word_byte w b l 14 (omega arith), word_byte w b l 15 (omega arith))
+  firmware_places_lem = rw (word_len w b l, word_byte w b l 14 (omega arith), word_byte w b l 15 (omega arith))
 
   pub vendor_signature_apart : vendor_signature (w ++ drop 4 b) ≡ when_answered (first_failing (vendor_rows (not (starts_with TRZV w)) b)) (vendor_places b)
   unfolding vendor_signature
-  vendor_signature_apart = ap₂ when_answered (vendor_rows_apart w b l) vendor_places
+  vendor_signature_apart = ap₂ when_answered (vendor_rows_apart w b l) vendor_places_lem
 
   pub firmware_signature_apart : firmware_signature (w ++ drop 4 b) ≡ when_answered (first_failing (firmware_rows (not (starts_with TRZV w)) b)) (firmware_places b)
   unfolding firmware_signature
-  firmware_signature_apart = ap₂ when_answered (firmware_rows_apart w b l) firmware_places
+  firmware_signature_apart = ap₂ when_answered (firmware_rows_apart w b l) firmware_places_lem
 
 -- ---- the places in the bytes
 
@@ -54,7 +54,7 @@ taken b a n s h = let d : s + n - s ≡ n = omega arith in rw (d, h)
 
 -- where there are so many, they are n
 as_many : (b : List ℕ) (a n : ℕ) → a + n ≤ length b → length (between a (a + n) b) ≡ n
-as_many b a n h = ap length (sym (bytes_between n b a h)) ∙ length_bytes n b a
+as_many b a n h = ap length (sym (bytes_between n b a h)) ∙ length_bytes_lem n b a
 
 vendor_stands : (b : List ℕ) → first_failing (vendor_shape b) ≡ Pass → VendorStands b (vendor_places b)
 unfolding vendor_places

@@ -56,13 +56,13 @@ module _ (v : ℕ) (f : Vendor) (keys string picture sig q : List ℕ) where
   unfolding vendor_fields vendor_front vendor_head
   vendor_magic = refl
 
-  vendor_len : v < 4294967296 → vendor_len whole ≡ v
+  vendor_len_lem : v < 4294967296 → vendor_len whole ≡ v
   unfolding u32_at vendor_fields vendor_front vendor_head
-  vendor_len h = word_of_lem v h
+  vendor_len_lem h = word_of_lem v h
 
-  vendor_expiry : f.expiry < 4294967296 → vendor_expiry whole ≡ f.expiry
+  vendor_expiry_lem : f.expiry < 4294967296 → vendor_expiry whole ≡ f.expiry
   unfolding u32_at vendor_fields vendor_front vendor_head
-  vendor_expiry h = word_of_lem f.expiry h
+  vendor_expiry_lem h = word_of_lem f.expiry h
 
   vendor_signers : signers_needed whole ≡ f.m
   unfolding vendor_fields vendor_front vendor_head
@@ -94,15 +94,15 @@ module _ (v : ℕ) (f : Vendor) (keys string picture sig q : List ℕ) where
   at_mask = simp append_assoc
 
   module _ (k : length keys ≡ 32 * f.n) where
-    to_string : length to_string ≡ string_len_at f.n
-    to_string = length-append (vendor_head f v) keys ∙ ap₂ (λ (x y : ℕ). x + y) length_head k
+    to_string_lem : length to_string ≡ string_len_at f.n
+    to_string_lem = length-append (vendor_head f v) keys ∙ ap₂ (λ (x y : ℕ). x + y) length_head k
 
     vendor_string : get_or whole (string_len_at f.n) 0 ≡ length string
-    vendor_string = rw at_string (get_or_at to_string (length string) _ 0 (string_len_at f.n) to_string)
+    vendor_string = rw at_string (get_or_at to_string (length string) _ 0 (string_len_at f.n) to_string_lem)
 
     vendor_padding : between (string_end f.n (length string)) (picture_start f.n (length string)) whole ≡ zeros padding
     vendor_padding =
-        let l : length (to_string ++ (length string ∷ string)) ≡ string_end f.n (length string) = rw (length-append to_string (length string ∷ string), to_string) (omega arith) in
+        let l : length (to_string ++ (length string ∷ string)) ≡ string_end f.n (length string) = rw (length-append to_string (length string ∷ string), to_string_lem) (omega arith) in
         rw at_padding (part_is (to_string ++ (length string ∷ string)) (zeros padding) _ (string_end f.n (length string)) (picture_start f.n (length string)) l (length_zeros padding))
 
     module _ (room : picture_start f.n (length string) + length picture + 65 ≤ v) where
@@ -117,8 +117,8 @@ module _ (v : ℕ) (f : Vendor) (keys string picture sig q : List ℕ) where
       vendor_read small time =
           record {
             magic = vendor_magic;
-            len = vendor_len small;
-            expiry = vendor_expiry time;
+            len = vendor_len_lem small;
+            expiry = vendor_expiry_lem time;
             signers = vendor_signers;
             count = vendor_count;
             reserved = vendor_reserved;

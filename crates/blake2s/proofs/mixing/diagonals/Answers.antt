@@ -1,0 +1,13 @@
+-- `blake2s::mixing::diagonals` meets its contract: `g` and `g3` mix four words of the vector in each G.
+use Rattle.blake2s.proofs.Halves.{handed, mixed, diagonals_mixed, diagonals_met}
+use Rattle.blake2s.proofs.mixing.diagonals.Goals as goal
+
+pub returns : goal.returns
+unfolding diagonals_mixed mixed
+returns c = diagonals_met _ _ _ _ _ _ _ _ _ _ _ _ _ _ _ _ _ _ _ _ _ _ _ _
+    (rw (
+      ← c.g-q.ensures,
+      ← handed c.three.ensures.0 c.three-2.ensures.0 c.three-3.ensures.0 c.three-4.ensures.0 c.three-5.ensures.0 c.three-6.ensures.0 c.g3-p.ensures.0,
+      ← handed c.three.ensures.1 c.three-2.ensures.1 c.three-3.ensures.1 c.three-4.ensures.1 c.three-5.ensures.1 c.three-6.ensures.1 c.g3-p.ensures.1,
+      ← handed c.three.ensures.2 c.three-2.ensures.2 c.three-3.ensures.2 c.three-4.ensures.2 c.three-5.ensures.2 c.three-6.ensures.2 c.g3-p.ensures.2,
+    ))
