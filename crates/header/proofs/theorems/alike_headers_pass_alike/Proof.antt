@@ -1,7 +1,0 @@
--- `header::theorems::alike_headers_pass_alike` meets its contract: row by row the tests agree, and a row that passes bounds what the next ones read.
-use Rattle.header.proofs.Alike.{headers_alike}
-use Rattle.header.proofs.theorems.alike_headers_pass_alike.Statement.{statement}
-use Rattle.header.proofs.theorems.alike_headers_pass_alike.Tie as tie
-
-pub alike_headers_pass_alike_spec : {M : Type 1} → statement M
-alike_headers_pass_alike_spec = tie.close (tie.spec (λ c R N b d w read magic_missing given. headers_alike w read magic_missing given))
