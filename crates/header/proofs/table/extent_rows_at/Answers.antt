@@ -1,24 +1,11 @@
 -- `header::table::extent_rows_at` meets its contract: each test is a row's, in the table's order.
-use borrow.Author.Rules.{rules}
 use Rattle.header.specs.Table.{extent_rows_at}
 use Rattle.header.proofs.Rows.{rows}
 use Rattle.header.proofs.table.extent_rows_at.Goals as goal
 
-pub code_cut_at-requires : goal.code_cut_at-requires
-unfolding extent_rows_at
-code_cut_at-requires c = search rules
-
-pub refuse-requires : goal.refuse-requires
-unfolding extent_rows_at
-refuse-requires c = search rules
-
 pub returns-then-code_cut_at : goal.returns-then-code_cut_at
 unfolding extent_rows_at
 returns-then-code_cut_at c = search rows depth 9
-
-pub refuse-requires-then-tail_wrong : goal.refuse-requires-then-tail_wrong
-unfolding extent_rows_at
-refuse-requires-then-tail_wrong c = search rules
 
 pub returns-then-tail_wrong : goal.returns-then-tail_wrong
 unfolding extent_rows_at

@@ -1,36 +1,15 @@
 -- `header::table::firmware_policy` meets its contract: each test is a row's by its promise, in the table's order.
-use borrow.Author.Rules.{rules}
 use Rattle.header.specs.Table.{firmware_policy}
 use Rattle.header.proofs.Rows.{rows}
 use Rattle.header.proofs.table.firmware_policy.Goals as goal
-
-pub firmware_expired-requires : goal.firmware_expired-requires
-unfolding firmware_policy
-firmware_expired-requires c = search rules
-
-pub refuse-requires : goal.refuse-requires
-unfolding firmware_policy
-refuse-requires c = search rules
 
 pub returns-then-firmware_expired : goal.returns-then-firmware_expired
 unfolding firmware_policy
 returns-then-firmware_expired c = search rows depth 9
 
-pub firmware_mask_wrong-requires : goal.firmware_mask_wrong-requires
-unfolding firmware_policy
-firmware_mask_wrong-requires c = search rules
-
-pub refuse-requires-then-firmware_mask_wrong : goal.refuse-requires-then-firmware_mask_wrong
-unfolding firmware_policy
-refuse-requires-then-firmware_mask_wrong c = search rules
-
 pub returns-then-firmware_mask_wrong : goal.returns-then-firmware_mask_wrong
 unfolding firmware_policy
 returns-then-firmware_mask_wrong c = search rows depth 9
-
-pub refuse-requires-then-not-given : goal.refuse-requires-then-not-given
-unfolding firmware_policy
-refuse-requires-then-not-given c = search rules
 
 pub returns-then-not-given : goal.returns-then-not-given
 unfolding firmware_policy

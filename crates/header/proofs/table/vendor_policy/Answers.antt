@@ -1,36 +1,15 @@
 -- `header::table::vendor_policy` meets its contract: each test is a row's by its promise, in the table's order.
-use borrow.Author.Rules.{rules}
 use Rattle.header.specs.Table.{vendor_policy}
 use Rattle.header.proofs.Rows.{rows}
 use Rattle.header.proofs.table.vendor_policy.Goals as goal
-
-pub vendor_expired-requires : goal.vendor_expired-requires
-unfolding vendor_policy
-vendor_expired-requires c = search rules
-
-pub refuse-requires : goal.refuse-requires
-unfolding vendor_policy
-refuse-requires c = search rules
 
 pub returns-then-vendor_expired : goal.returns-then-vendor_expired
 unfolding vendor_policy
 returns-then-vendor_expired c = search rows depth 9
 
-pub vendor_mask_wrong-requires : goal.vendor_mask_wrong-requires
-unfolding vendor_policy
-vendor_mask_wrong-requires c = search rules
-
-pub refuse-requires-then-vendor_mask_wrong : goal.refuse-requires-then-vendor_mask_wrong
-unfolding vendor_policy
-refuse-requires-then-vendor_mask_wrong c = search rules
-
 pub returns-then-vendor_mask_wrong : goal.returns-then-vendor_mask_wrong
 unfolding vendor_policy
 returns-then-vendor_mask_wrong c = search rows depth 9
-
-pub refuse-requires-then-not-given : goal.refuse-requires-then-not-given
-unfolding vendor_policy
-refuse-requires-then-not-given c = search rules
 
 pub returns-then-not-given : goal.returns-then-not-given
 unfolding vendor_policy

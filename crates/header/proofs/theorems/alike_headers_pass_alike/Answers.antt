@@ -3,4 +3,4 @@ use Rattle.header.proofs.Alike.{headers_alike}
 use Rattle.header.proofs.theorems.alike_headers_pass_alike.Goals as goal
 
 pub returns : goal.returns
-returns c = headers_alike w read magic_missing given
+returns c = λ R N b d w read magic_missing given. headers_alike w read magic_missing given

@@ -2,7 +2,6 @@
 use Prim.Native.Nat.{ℕ, ◌≤◌}
 use mathlib.Core.Bool.{Bool, true, false, cond}
 use native.Mathlib.Omega.{arith}
-use borrow.Author.Rules.{rules}
 use Rattle.octets.specs.Read.{bit_unset}
 use Rattle.header.specs.Trust.{trust_of}
 use Rattle.header.proofs.trust.trust_of.Goals as goal
@@ -15,29 +14,13 @@ pub overflow_add-result-3 : goal.overflow_add-result-3
 overflow_add-result-3 c = let x = c.args.x in
     omega (arith, at_most (bit_unset 0 x) 1, at_most (bit_unset 1 x) 2, at_most (bit_unset 2 x) 4, at_most (bit_unset 3 x) 8)
 
-pub seconds-one-requires : goal.seconds-one-requires
-unfolding trust_of
-seconds-one-requires c = search rules
-
-pub seconds-two-requires : goal.seconds-two-requires
-unfolding trust_of
-seconds-two-requires c = search rules
-
-pub seconds-four-requires : goal.seconds-four-requires
-unfolding trust_of
-seconds-four-requires c = search rules
-
-pub seconds-eight-requires : goal.seconds-eight-requires
-unfolding trust_of
-seconds-eight-requires c = search rules
-
 pub overflow_add-result : goal.overflow_add-result
 unfolding trust_of
-overflow_add-result c = omega (arith, add-t9 c)
+overflow_add-result c = omega (arith, at_most (bit_unset 0 c.args.x) 1, at_most (bit_unset 1 c.args.x) 2, at_most (bit_unset 2 c.args.x) 4, at_most (bit_unset 3 c.args.x) 8)
 
 pub overflow_add-result-2 : goal.overflow_add-result-2
 unfolding trust_of
-overflow_add-result-2 c = omega (arith, add-t9 c)
+overflow_add-result-2 c = omega (arith, at_most (bit_unset 0 c.args.x) 1, at_most (bit_unset 1 c.args.x) 2, at_most (bit_unset 2 c.args.x) 4, at_most (bit_unset 3 c.args.x) 8)
 
 pub returns : goal.returns
 unfolding trust_of
