@@ -1,5 +1,5 @@
 -- `sha256::sha256` meets its contract: no zeros follow the lent bytes.
-use Rattle.std.proofs.Common.{◌≡◌, ◌-◌, length, append-nil, arith, rules}
+use Rattle.std.proofs.Common.{◌≡◌, ◌-◌, length, append-nil, arith}
 use Rattle.sha256.proofs.sha256.Goals as goal
 
 pub returns : goal.returns

@@ -1,5 +1,5 @@
 -- `sha256::sha256_zero_tailed` meets its contract: so many zeros follow the lent bytes.
-use Rattle.std.proofs.Common.{◌≡◌, ◌+◌, ◌-◌, length, arith, rules}
+use Rattle.std.proofs.Common.{◌≡◌, ◌+◌, ◌-◌, length, arith}
 use Rattle.sha256.proofs.sha256_zero_tailed.Goals as goal
 
 pub returns : goal.returns

@@ -18,11 +18,11 @@ loop-at-preserved-then-count-gt0 c = let k = c.whole_blocks-count in
 
 pub loop-at-preserved : goal.loop-at-preserved
 loop-at-preserved c = (
-      omega arith,
-      omega arith,
-      absorbed_run _ _ _ _ c.loop-at.at 1 _ c.loop-at.invariant.1 (omega arith) (run_one _ _ (c.loop-at.at / 64) c.block_copy-bytes.ensures) c.absorb_run-now-else-count-gt0.ensures
-          ∙ c.loop-at.invariant.2,
-    )
+  omega arith,
+  omega arith,
+  absorbed_run _ _ _ _ c.loop-at.at 1 _ c.loop-at.invariant.1 (omega arith) (run_one _ _ (c.loop-at.at / 64) c.block_copy-bytes.ensures) c.absorb_run-now-else-count-gt0.ensures
+      ∙ c.loop-at.invariant.2,
+)
 
 pub returns : goal.returns
 returns c = sym (absorbed_all _ _ _ (c.loop-at.at / 64) _ (omega arith)) ∙ c.loop-at.invariant.2

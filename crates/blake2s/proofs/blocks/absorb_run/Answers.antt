@@ -8,13 +8,13 @@ loop-o-init c = (omega arith, omega arith, absorbed_count _ _ _ c.args.at c.args
 
 pub loop-o-preserved : goal.loop-o-preserved
 loop-o-preserved c = (
-      omega arith,
-      omega arith,
-      absorbed_step _ _ _ c.args.at c.loop-o.o _ (omega arith) (omega arith)
-          (run_at_lem c.args.s.now c.args.i c.args.at c.loop-o.o (omega arith) c.loop-o.invariant.1)
-          c.counter.ensures c.is_last.ensures c.mix_at-now.ensures
-          ∙ c.loop-o.invariant.2,
-    )
+  omega arith,
+  omega arith,
+  absorbed_step _ _ _ c.args.at c.loop-o.o _ (omega arith) (omega arith)
+      (run_at_lem c.args.s.now c.args.i c.args.at c.loop-o.o (omega arith) c.loop-o.invariant.1)
+      c.counter.ensures c.is_last.ensures c.mix_at-now.ensures
+      ∙ c.loop-o.invariant.2,
+)
 
 pub returns : goal.returns
 returns c = sym (absorbed_all _ _ _ ((c.args.at + c.loop-o.o) / 64) _ (omega arith)) ∙ c.loop-o.invariant.2

@@ -1,9 +1,7 @@
 -- `sha256::blocks::absorb_whole` meets its contract. The invariant: the blocks that are left lead from the hash value now to the one at last.
-use Rattle.std.proofs.Common.{◌≡◌, ◌-◌, ◌*◌, ◌≤◌, sym, ◌∙◌, arith}
-use native.Mathlib.Nat.{sub-zero}
+use Rattle.std.proofs.Common.{◌≡◌, ◌-◌, ◌*◌, ◌≤◌}
 use Rattle.sha256.specs.Fips180.{block_at, absorbed}
 use Rattle.sha256.specs.Words.{state}
-use Rattle.sha256.proofs.Padding.{absorbed_step, absorbed_all}
 use Rattle.sha256.proofs.blocks.absorb_whole.Given as goal
 
 abbrev pub invariant-loop-k : goal.invariant-loop-k

@@ -1,8 +1,7 @@
 -- `sha256::blocks::digest_of` meets its contract. The invariant: the blocks that are left lead from the hash value now to the one at last.
-use Rattle.std.proofs.Common.{◌≡◌, ◌-◌, ◌*◌, ◌≤◌, sym, refl, ◌∙◌, arith}
+use Rattle.std.proofs.Common.{◌≡◌, ◌-◌, ◌*◌, ◌≤◌}
 use Rattle.sha256.specs.Fips180.{padded, block_at, absorbed}
 use Rattle.sha256.specs.Words.{state, zero_tailed}
-use Rattle.sha256.proofs.Padding.{absorbed_step, absorbed_all, hashed}
 use Rattle.sha256.proofs.blocks.digest_of.Given as goal
 
 abbrev pub invariant-loop-k : goal.invariant-loop-k

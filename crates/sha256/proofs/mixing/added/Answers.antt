@@ -5,12 +5,12 @@ use Rattle.sha256.proofs.mixing.added.Goals as goal
 pub returns : goal.returns
 unfolding added
 returns c = rw (
-      c.wrapping_add_u32.ensures.value,
-      c.wrapping_add_u32-2.ensures.value,
-      c.wrapping_add_u32-3.ensures.value,
-      c.wrapping_add_u32-4.ensures.value,
-      c.wrapping_add_u32-5.ensures.value,
-      c.wrapping_add_u32-6.ensures.value,
-      c.wrapping_add_u32-7.ensures.value,
-      c.wrapping_add_u32-8.ensures.value,
-    )
+  c.wrapping_add_u32.ensures.value,
+  c.wrapping_add_u32-2.ensures.value,
+  c.wrapping_add_u32-3.ensures.value,
+  c.wrapping_add_u32-4.ensures.value,
+  c.wrapping_add_u32-5.ensures.value,
+  c.wrapping_add_u32-6.ensures.value,
+  c.wrapping_add_u32-7.ensures.value,
+  c.wrapping_add_u32-8.ensures.value,
+)

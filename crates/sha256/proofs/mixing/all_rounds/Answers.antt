@@ -1,6 +1,6 @@
 -- `sha256::mixing::all_rounds` meets its contract. The invariant: the rounds that are left lead from the working variables now to those at last.
-use Rattle.std.proofs.Common.{◌≡◌, ◌+◌, ◌-◌, ◌%◌, ◌≤◌, length, drop, refl, ◌∙◌, arith}
-use Rattle.sha256.specs.Fips180.{K, schedule, rounds}
+use Rattle.std.proofs.Common.{◌≡◌, ◌+◌, ◌-◌, length, refl, ◌∙◌, arith}
+use Rattle.sha256.specs.Fips180.{K}
 use Rattle.sha256.specs.Words.{state, block}
 use Rattle.sha256.proofs.Rounds.{group, next_group, last_group, length_constants}
 use Rattle.sha256.proofs.mixing.all_rounds.Goals as goal
@@ -10,11 +10,11 @@ loop-t-init c = (omega arith, omega arith, refl)
 
 pub loop-t-preserved : goal.loop-t-preserved
 loop-t-preserved c = let n : length K ≡ 64 = length_constants in (
-      omega arith,
-      omega arith,
-      next_group _ K _ _ c.loop-t.t (64 - c.loop-t.t) (64 - (c.loop-t.t + 16)) (omega arith) (omega arith) refl refl c.rounds_from-now.ensures.w_value c.rounds_from-now.ensures.v_value
-          ∙ c.loop-t.invariant.2,
-    )
+  omega arith,
+  omega arith,
+  next_group _ K _ _ c.loop-t.t (64 - c.loop-t.t) (64 - (c.loop-t.t + 16)) (omega arith) (omega arith) refl refl c.rounds_from-now.ensures.w_value c.rounds_from-now.ensures.v_value
+      ∙ c.loop-t.invariant.2,
+)
 
 pub returns : goal.returns
 returns c = let k = c.constants_at-k in

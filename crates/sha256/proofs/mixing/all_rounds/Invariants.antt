@@ -1,8 +1,7 @@
 -- `sha256::mixing::all_rounds` meets its contract. The invariant: the rounds that are left lead from the working variables now to those at last.
-use Rattle.std.proofs.Common.{◌≡◌, ◌+◌, ◌-◌, ◌%◌, ◌≤◌, length, drop, refl, ◌∙◌, arith}
+use Rattle.std.proofs.Common.{◌≡◌, ◌-◌, ◌%◌, ◌≤◌, drop}
 use Rattle.sha256.specs.Fips180.{K, schedule, rounds}
 use Rattle.sha256.specs.Words.{state, block}
-use Rattle.sha256.proofs.Rounds.{group, next_group, last_group, length_constants}
 use Rattle.sha256.proofs.mixing.all_rounds.Given as goal
 
 abbrev pub invariant-loop-t : goal.invariant-loop-t

@@ -1,5 +1,5 @@
 -- `sha256::mixing::next_rounds` meets its contract: four words of the schedule at a time, each with two rounds twice.
-use Rattle.std.proofs.Common.{refl, rules}
+use Rattle.std.proofs.Common.{refl}
 use Rattle.sha256.specs.Words.{quad}
 use Rattle.sha256.proofs.Rounds.{sixteen_more, ran_two, none}
 use Rattle.sha256.proofs.mixing.next_rounds.Goals as goal

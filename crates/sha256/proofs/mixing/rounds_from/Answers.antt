@@ -1,5 +1,4 @@
 -- `sha256::mixing::rounds_from` meets its contract: the constants are what `constants_at` promises.
-use Rattle.std.proofs.Common.{rules}
 use Rattle.sha256.proofs.mixing.rounds_from.Goals as goal
 
 pub returns : goal.returns
