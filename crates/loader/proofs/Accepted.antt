@@ -1,6 +1,6 @@
 -- What the checks of a loader accept, said of the bytes: an acceptance says each of it, and all of it together makes an acceptance. The same of the digest question.
 -- Assumes nothing.
-use Prim.Native.Nat.{ℕ, ◌≤◌}
+use Prim.Native.Nat.{ℕ}
 use mathlib.Core.Path.{◌≡◌, refl, sym, subst, ap, ◌∙◌}
 use mathlib.Core.Bool.{Bool, true, false}
 use mathlib.Core.List.{List, []}
