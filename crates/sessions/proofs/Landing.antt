@@ -21,9 +21,10 @@ use Rattle.signing.specs.Digests.{vendor_digest, firmware_digest}
 use Rattle.signing.specs.Places.{no_signature, vendor_signature, firmware_signature}
 use Rattle.image.proofs.Erased.{accepted_before_erased}
 use Rattle.sessions.specs.Record.{pages_of, no_word, full}
-use Rattle.sessions.specs.Calls.{begin_of, takes, asked, no_digest, signatures, judged, turn_of}
+use Rattle.sessions.specs.Calls.{begin_of, takes, asked, no_digest, signatures, judged, turn_of, close_plan}
 use Rattle.sessions.specs.Run.{Call, erase_call, fill_call, ask_call, close_call, plan_close_call, confirm_call, Point, began, advance, after, made, operation_of, is_accepted, is_done, erase_answer, fill_answer, ask_answer, signatures_answer, close_answer, plan_close_answer, confirm_answer, all_erased, all_given, is_full, done_by, accepted_by, slot_then, FillRule, Unbootable, Landed, DoneMeansLanded, CutSession, before_cut, left_by, left_by_all, NoneStored, NextSessionLands}
-use Rattle.sessions.specs.declared.Reply.TheVariants.{Erased, Accepted, Done, Refused, Rejected}
+use Rattle.sessions.specs.declared.Plan.{Plan}
+use Rattle.sessions.specs.declared.Reply.TheVariants.{Erased, Done, Refused}
 use Rattle.sessions.proofs.Phases.{Early, Begun, Erasing, Filling, Over, Stored, Phase, is_begun, in_erasing, in_filling, is_over, is_waiting, has_ended, began_phase}
 use Rattle.sessions.proofs.Allowed.{erase_allowed, fill_too_early, close_too_early, first_erase, later_erase, erase_too_late, close_before_last, close_allowed, slot_starts_erased, file_checked, erase_refused, fill_refused, close_refused, confirm_refused}
 use Rattle.sessions.proofs.Steps.{page_erased, last_page, landed_slot}
@@ -183,7 +184,9 @@ module _ (found : List ℕ) (f : ℕ) where
       accepts (answer.Rejected r) = refl
 
       closes : (given : Inputs) (g : Bool) → all_given f p.past ≡ g → close_answer given p.now ≡ cond g (done_by (check_file p.past.given given)) (Refused 19)
-      closes given true g = rw (close_answer, close_allowed found f p e g, slot_starts_erased found f p e, file_checked found f p e g) (done (check_file p.past.given given))
+      closes given true g =
+          let planned : close_plan p.now.session given p.now.slot ≡ judged p.now.session (check_file p.past.given given) = rw (close_allowed found f p e g, slot_starts_erased found f p e, file_checked found f p e g) in
+          ap (λ (x : Plan). (turn_of x).reply) planned ∙ done (check_file p.past.given given)
       closes given false g = (barred_answers p (close_before_last found f p e g)).closes given
 
       plans : (given : Inputs) (g : Bool) → all_given f p.past ≡ g → plan_close_answer given p.now ≡ cond g (accepted_by (check_file p.past.given given)) (Refused 19)

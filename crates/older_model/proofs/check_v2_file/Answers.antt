@@ -1,0 +1,11 @@
+-- `older_model::check_v2_file` meets its contract: the rows are those of the headers and of the code, with the test of the later bytes that is promised.
+use borrow.Author.Rules.{rules}
+use Rattle.header.proofs.Told.{told_too}
+use Rattle.image.specs.Answer.{told}
+use Rattle.older_model.specs.Check.{check_v2_file}
+use Rattle.older_model.proofs.Laws.{alone_answered}
+use Rattle.older_model.proofs.check_v2_file.Goals as goal
+
+pub returns : goal.returns
+unfolding check_v2_file
+returns c = let both = told_too told (alone_answered _ _ c.alone_headers-headers.ensures c.bytes_follow_at.ensures c.then_code-outcome.ensures c.answer_at.ensures) in record { value = both.0; told = both.1 }

@@ -1,0 +1,10 @@
+-- `older_model::table::v2_headers` meets its contract: the two groups are searched in order.
+use borrow.Author.Rules.{rules}
+use Rattle.header.proofs.Rows.{rows}
+use Rattle.older_model.proofs.table.v2_headers.Goals as goal
+
+pub returns-in-Refused : goal.returns-in-Refused
+returns-in-Refused c = search rows depth 9
+
+pub returns : goal.returns
+returns c = search rows depth 9

@@ -1,0 +1,18 @@
+-- So far the first i hashes are written one behind the other; each turn writes one more behind them.
+use native.Mathlib.Omega.{arith}
+use Prim.Native.Nat.{◌≤◌, ◌-◌, ◌+◌, ◌*◌}
+use mathlib.Core.Path.{◌≡◌, refl}
+use lib.ListN.{length, take}
+use lib.Seq.{take_all}
+use borrow.Author.Rules.{rules}
+use Rattle.octets.specs.Put.{Put}
+use Rattle.octets.proofs.Splice.{none, next}
+use Rattle.writer.specs.Firmware.{joined}
+use Rattle.writer.proofs.Joined.{joined_more}
+use Rattle.writer.proofs.put_hashes.Given as goal
+
+abbrev pub invariant-loop-i : goal.invariant-loop-i
+invariant-loop-i l = (l.i ≤ 16) × (l.at ≡ l.from + 32 * l.i) × (length l.out ≡ length l.initial.out) × (length l.table ≡ 16) × Put l.from (joined (take l.i l.table)) l.initial.out l.at l.out
+
+abbrev pub decreases-loop-i : goal.decreases-loop-i
+decreases-loop-i l = 16 - l.i
