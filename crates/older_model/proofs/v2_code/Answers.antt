@@ -1,6 +1,5 @@
 -- `older_model::v2_code` meets its contract: `accepted_part` promises the bytes of the span.
 use mathlib.Core.Path.{ap, ◌∙◌}
-use borrow.Author.Rules.{rules}
 use Rattle.octets.specs.Read.{span_of}
 use Rattle.octets.specs.declared.Span.{Span}
 use Rattle.image.specs.Parts.{when_accepted}

@@ -1,6 +1,5 @@
 -- Five fields written one behind the other are one field.
 use mathlib.Core.List.{append_assoc}
-use borrow.Author.Rules.{rules}
 use Rattle.octets.proofs.Splice.{next}
 use Rattle.writer.specs.Firmware.{firmware_fields}
 use Rattle.writer.proofs.firmware_fields.Goals as goal

@@ -1,14 +1,9 @@
 -- So far the first i hashes are written one behind the other; each turn writes one more behind them.
-use native.Mathlib.Omega.{arith}
 use Prim.Native.Nat.{◌≤◌, ◌-◌, ◌+◌, ◌*◌}
-use mathlib.Core.Path.{◌≡◌, refl}
+use mathlib.Core.Path.{◌≡◌}
 use lib.ListN.{length, take}
-use lib.Seq.{take_all}
-use borrow.Author.Rules.{rules}
 use Rattle.octets.specs.Put.{Put}
-use Rattle.octets.proofs.Splice.{none, next}
 use Rattle.writer.specs.Firmware.{joined}
-use Rattle.writer.proofs.Joined.{joined_more}
 use Rattle.writer.proofs.put_hashes.Given as goal
 
 abbrev pub invariant-loop-i : goal.invariant-loop-i

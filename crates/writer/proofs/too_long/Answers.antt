@@ -16,4 +16,4 @@ pub size_of-requires : goal.size_of-requires
 size_of-requires c = (search rules, search rules)
 
 pub returns : goal.returns
-returns c = ap (ltb 65536) c.type_size.ensures
+returns c = ap (ltb 65536) c.size_of.ensures

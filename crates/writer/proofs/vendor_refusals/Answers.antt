@@ -3,7 +3,6 @@ use native.Mathlib.Nat.{le_trans}
 use native.Mathlib.Omega.{arith}
 use Prim.Native.Nat.{◌+◌, ◌≤◌}
 use mathlib.Core.Path.{sym, ◌∙◌}
-use borrow.Author.Rules.{rules}
 use borrow.Author.Tests.{ltb-false, lt-ltb, le-ltb}
 use Rattle.header.proofs.Rows.{passes, fails, passes_here, fails_here, ends}
 use Rattle.writer.specs.Vendor.{vendor_refusals}
@@ -11,35 +10,30 @@ use Rattle.writer.proofs.Taken.{size_holds, lengths_right, too_long_is}
 use Rattle.writer.proofs.vendor_refusals.Goals as goal
 
 pub overflow_cast-string : goal.overflow_cast-string
-overflow_cast-string c = let a = (start c).args in
-    omega (arith, lengths_right a.keys a.f.n a.string c.if-keys-n.false)
+overflow_cast-string c = omega (arith, lengths_right c.args.keys c.args.f.n c.args.string c.if-keys-n.false)
 
 pub too_long-requires : goal.too_long-requires
-too_long-requires c = let a = (start c).args in
-    omega (arith, lengths_right a.keys a.f.n a.string c.if-keys-n.false, c.picture_start-start.ensures)
+too_long-requires c = omega (arith, lengths_right c.args.keys c.args.f.n c.args.string c.if-keys-n.false, c.picture_start-start.ensures)
 
 pub returns-then-too_long : goal.returns-then-too_long
 unfolding vendor_refusals
-returns-then-too_long c = let a = (start c).args in
-    passes _ _ c.keys_impossible.ensures c.if-keys_impossible.false
+returns-then-too_long c = passes _ _ c.keys_impossible.ensures c.if-keys_impossible.false
     (passes_here _ _ c.if-keys-n.false
-    (fails _ _ (too_long_is a.f.n a.string a.picture c.picture_start-start.ensures c.too_long.ensures) c.if-too_long.true c.refuse-then-too_long.ensures))
+    (fails _ _ (too_long_is c.args.f.n c.args.string c.args.picture c.picture_start-start.ensures c.too_long.ensures) c.if-too_long.true c.refuse-then-too_long.ensures))
 
 pub returns-then-room-size_of : goal.returns-then-room-size_of
 unfolding vendor_refusals
-returns-then-room-size_of c = let a = (start c).args in
-    passes _ _ c.keys_impossible.ensures c.if-keys_impossible.false
+returns-then-room-size_of c = passes _ _ c.keys_impossible.ensures c.if-keys_impossible.false
     (passes_here _ _ c.if-keys-n.false
-    (passes _ _ (too_long_is a.f.n a.string a.picture c.picture_start-start.ensures c.too_long.ensures) c.if-too_long.false
-    (fails_here _ _ (rw (← c.picture_start-start.ensures, ← c.type_size.ensures) (lt-ltb a.room c.type_size.result c.if-room-size_of.true)) c.refuse-then-room-size_of.ensures)))
+    (passes _ _ (too_long_is c.args.f.n c.args.string c.args.picture c.picture_start-start.ensures c.too_long.ensures) c.if-too_long.false
+    (fails_here _ _ (rw (← c.picture_start-start.ensures, ← c.size_of.ensures) (lt-ltb c.args.room c.size_of.result c.if-room-size_of.true)) c.refuse-then-room-size_of.ensures)))
 
 pub returns : goal.returns
 unfolding vendor_refusals
-returns c = let a = (start c).args in
-    passes _ _ c.keys_impossible.ensures c.if-keys_impossible.false
+returns c = passes _ _ c.keys_impossible.ensures c.if-keys_impossible.false
     (passes_here _ _ c.if-keys-n.false
-    (passes _ _ (too_long_is a.f.n a.string a.picture c.picture_start-start.ensures c.too_long.ensures) c.if-too_long.false
-    (passes_here _ _ (rw (← c.picture_start-start.ensures, ← c.type_size.ensures) (le-ltb a.room c.type_size.result c.if-room-size_of.false)) ends)))
+    (passes _ _ (too_long_is c.args.f.n c.args.string c.args.picture c.picture_start-start.ensures c.too_long.ensures) c.if-too_long.false
+    (passes_here _ _ (rw (← c.picture_start-start.ensures, ← c.size_of.ensures) (le-ltb c.args.room c.size_of.result c.if-room-size_of.false)) ends)))
 
 pub returns-then-keys_impossible : goal.returns-then-keys_impossible
 unfolding vendor_refusals
@@ -50,5 +44,6 @@ unfolding vendor_refusals
 returns-then-keys-n c = passes _ _ c.keys_impossible.ensures c.if-keys_impossible.false (fails_here _ _ c.if-keys-n.true c.refuse-then-keys-n.ensures)
 
 pub size_of-requires : goal.size_of-requires
-unfolding vendor_refusals
-size_of-requires c = (omega (arith, short c), omega (arith, short c))
+size_of-requires c =
+    let short : c.picture_start-start.result + c.args.picture + 65 ≤ 65536 = le_trans (size_holds _) (ltb-false 65536 _ (sym c.too_long.ensures ∙ c.if-too_long.false)) in
+    (omega arith, omega arith)

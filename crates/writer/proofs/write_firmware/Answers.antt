@@ -12,7 +12,24 @@ use Rattle.writer.specs.Firmware.{firmware_header}
 use Rattle.writer.proofs.Taken.{FirmwareFits, firmware_fits, refused, wrote}
 use Rattle.writer.proofs.write_firmware.Goals as goal
 
+pub returns-in-Refused : goal.returns-in-Refused
+returns-in-Refused c =
+    let both = told_beside told (refused _ _ _ c.firmware_refusals-refusal.ensures c.in-Refused.is) in
+    record { value = both.0; told = both.1 }
+
+pub overflow_cast-codelen : goal.overflow_cast-codelen
+overflow_cast-codelen c =
+    let r : FirmwareFits c.args.v (length c.args.code.now) (length c.args.out.now) = firmware_fits _ _ _ (sym c.firmware_refusals-refusal.ensures ∙ c.in_default.is) in
+    omega (arith, r.code)
+
+pub firmware_fields-requires : goal.firmware_fields-requires
+firmware_fields-requires c =
+    let r : FirmwareFits c.args.v (length c.args.code.now) (length c.args.out.now) = firmware_fits _ _ _ (sym c.firmware_refusals-refusal.ensures ∙ c.in_default.is) in
+    (r.holds, search rules)
+
 pub returns : goal.returns
 unfolding firmware_header
-returns c = let both = let h = c.hashes_of-table.ensures ∙ ap (λ (i : ℕ). hashes_of blake2s_of 16 i (start c).args.code.now) c.first_room.ensures in
-    told_beside told (wrote c.firmware_refusals-refusal.ensures c.in_default.is refl (rw h at c.firmware_fields.ensures)) in record { value = both.0; told = both.1 }
+returns c =
+    let h = c.hashes_of-table.ensures ∙ ap (λ (i : ℕ). hashes_of blake2s_of 16 i c.args.code.now) c.first_room.ensures in
+    let both = told_beside told (wrote c.firmware_refusals-refusal.ensures c.in_default.is refl (rw h at c.firmware_fields.ensures)) in
+    record { value = both.0; told = both.1 }

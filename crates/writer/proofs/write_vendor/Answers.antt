@@ -13,21 +13,39 @@ use Rattle.writer.specs.Vendor.{vendor_size, vendor_fields}
 use Rattle.writer.proofs.Taken.{VendorFits, vendor_fits, length_front, refused, wrote}
 use Rattle.writer.proofs.write_vendor.Goals as goal
 
+pub returns-in-Refused : goal.returns-in-Refused
+returns-in-Refused c =
+    let both = told_beside told (refused _ _ _ c.vendor_refusals-refusal.ensures c.in-Refused.is) in
+    record { value = both.0; told = both.1 }
+
+pub overflow_cast-string : goal.overflow_cast-string
+overflow_cast-string c =
+    let r : VendorFits c.args.f (length c.args.keys.now) (length c.args.string.now) (length c.args.picture.now) (length c.args.out.now) = vendor_fits _ _ _ _ _ (sym c.vendor_refusals-refusal.ensures ∙ c.in_default.is) in
+    omega arith
+
+pub size_of-v-requires : goal.size_of-v-requires
+size_of-v-requires c =
+    let r : VendorFits c.args.f (length c.args.keys.now) (length c.args.string.now) (length c.args.picture.now) (length c.args.out.now) = vendor_fits _ _ _ _ _ (sym c.vendor_refusals-refusal.ensures ∙ c.in_default.is) in
+    (omega (arith, c.picture_start-start.ensures), omega (arith, c.picture_start-start.ensures))
+
 pub vendor_front-at-requires : goal.vendor_front-at-requires
-vendor_front-at-requires c = let r = ready c in
-    (omega (arith, c.picture_start-start.ensures), r.keys, r.string, omega (arith, c.picture_start-start.ensures, c.type_size.ensures))
+vendor_front-at-requires c =
+    let r : VendorFits c.args.f (length c.args.keys.now) (length c.args.string.now) (length c.args.picture.now) (length c.args.out.now) = vendor_fits _ _ _ _ _ (sym c.vendor_refusals-refusal.ensures ∙ c.in_default.is) in
+    (omega (arith, c.picture_start-start.ensures), r.keys, r.string, omega (arith, c.picture_start-start.ensures, c.size_of-v.ensures))
 
 pub vendor_back-requires : goal.vendor_back-requires
-vendor_back-requires c = let r = ready c in
-    let a = (start c).args in
-    let l = length_front c.type_size.result a.f a.keys.now a.string.now r.keys in
-    (omega (arith, c.picture_start-start.ensures, c.type_size.ensures), omega (arith, c.picture_start-start.ensures, c.type_size.ensures, c.vendor_front-at.ensures.place), search rules)
+vendor_back-requires c =
+    let r : VendorFits c.args.f (length c.args.keys.now) (length c.args.string.now) (length c.args.picture.now) (length c.args.out.now) = vendor_fits _ _ _ _ _ (sym c.vendor_refusals-refusal.ensures ∙ c.in_default.is) in
+    let l = length_front c.size_of-v.result c.args.f c.args.keys.now c.args.string.now r.keys in
+    (omega (arith, c.picture_start-start.ensures, c.size_of-v.ensures), omega (arith, c.picture_start-start.ensures, c.size_of-v.ensures, c.vendor_front-at.ensures.place, l), search rules)
 
 pub returns : goal.returns
 unfolding vendor_fields
-returns c = let both = let a = (start c).args in
-    let v : c.type_size.result ≡ vendor_size a.f.n (length a.string.now) (length a.picture.now) =
-    c.type_size.ensures ∙ ap (λ (x : ℕ). round_up 512 (x + length a.picture.now + 65)) c.picture_start-start.ensures in
-    let l = length_front c.type_size.result a.f a.keys.now a.string.now (ready c).keys in
-    let s : c.vendor_front-at.result ≡ picture_start a.f.n (length a.string.now) = omega (arith, c.vendor_front-at.ensures.place) in
-    told_beside told (wrote c.vendor_refusals-refusal.ensures c.in_default.is v (rw (s, v) at (next c.vendor_front-at.ensures c.vendor_back.ensures))) in record { value = both.0; told = both.1 }
+returns c =
+    let r : VendorFits c.args.f (length c.args.keys.now) (length c.args.string.now) (length c.args.picture.now) (length c.args.out.now) = vendor_fits _ _ _ _ _ (sym c.vendor_refusals-refusal.ensures ∙ c.in_default.is) in
+    let v : c.size_of-v.result ≡ vendor_size c.args.f.n (length c.args.string.now) (length c.args.picture.now) =
+        c.size_of-v.ensures ∙ ap (λ (x : ℕ). round_up 512 (x + length c.args.picture.now + 65)) c.picture_start-start.ensures in
+    let l = length_front c.size_of-v.result c.args.f c.args.keys.now c.args.string.now r.keys in
+    let s : c.vendor_front-at.result ≡ picture_start c.args.f.n (length c.args.string.now) = omega (arith, c.vendor_front-at.ensures.place, l) in
+    let both = told_beside told (wrote c.vendor_refusals-refusal.ensures c.in_default.is v (rw (s, v) at (next c.vendor_front-at.ensures c.vendor_back.ensures))) in
+    record { value = both.0; told = both.1 }

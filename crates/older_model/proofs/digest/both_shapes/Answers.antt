@@ -1,5 +1,4 @@
 -- `older_model::digest::both_shapes` meets its contract: the two groups are searched in order.
-use borrow.Author.Rules.{rules}
 use Rattle.header.proofs.Rows.{rows}
 use Rattle.older_model.proofs.digest.both_shapes.Goals as goal
 

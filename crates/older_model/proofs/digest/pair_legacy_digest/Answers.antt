@@ -1,5 +1,4 @@
 -- `older_model::digest::pair_legacy_digest` meets its contract: by cases of the outcome; `signed_digest` promises the digest.
-use borrow.Author.Rules.{rules}
 use mathlib.Core.Path.{refl}
 use Rattle.signing.proofs.Laws.{tells, answers_given}
 use Rattle.older_model.specs.Digest.{pair_legacy_digest}

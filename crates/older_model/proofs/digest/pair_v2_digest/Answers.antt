@@ -1,5 +1,4 @@
 -- `older_model::digest::pair_v2_digest` meets its contract: a header that passes has zeros behind its indexes, so that zeros from the signatures on are what is signed.
-use borrow.Author.Rules.{rules}
 use Rattle.signing.proofs.Laws.{tells}
 use Rattle.older_model.specs.Digest.{pair_v2_digest}
 use Rattle.older_model.proofs.Signed.{pair_answers_signed}

@@ -1,5 +1,4 @@
 -- `older_model::digest::signed_cut` meets its contract: `signed_end` promises where the bytes end.
-use borrow.Author.Rules.{rules}
 use Rattle.older_model.specs.Digest.{signed_legacy_cut}
 use Rattle.older_model.proofs.digest.signed_cut.Goals as goal
 

@@ -1,5 +1,4 @@
 -- `older_model::digest::signed_digest` meets its contract: `part` promises the bytes behind the header.
-use borrow.Author.Rules.{rules}
 use Rattle.older_model.specs.Digest.{signed_legacy}
 use Rattle.older_model.proofs.digest.signed_digest.Goals as goal
 

@@ -1,5 +1,4 @@
 -- `older_model::digest::signed_rows` meets its contract: the legacy header's rows, and the row of the bytes that it signs.
-use borrow.Author.Rules.{rules}
 use Rattle.header.proofs.Rows.{rows}
 use Rattle.older_model.proofs.digest.signed_rows.Goals as goal
 

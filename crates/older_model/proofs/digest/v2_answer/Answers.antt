@@ -1,5 +1,4 @@
 -- `older_model::digest::v2_answer` meets its contract: by cases of the outcome; `v2_header_digest` promises the digest.
-use borrow.Author.Rules.{rules}
 use mathlib.Core.Path.{refl}
 use Rattle.signing.proofs.Laws.{answers_given}
 use Rattle.older_model.proofs.digest.v2_answer.Goals as goal

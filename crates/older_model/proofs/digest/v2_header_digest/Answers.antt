@@ -1,5 +1,4 @@
 -- `older_model::digest::v2_header_digest` meets its contract: `part` promises the bytes before the signatures.
-use borrow.Author.Rules.{rules}
 use Rattle.older_model.proofs.digest.v2_header_digest.Goals as goal
 
 pub returns : goal.returns

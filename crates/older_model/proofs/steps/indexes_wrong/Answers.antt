@@ -1,5 +1,4 @@
 -- `older_model::steps::indexes_wrong` meets its contract: each index by `no_key`, and the pairs as they are.
-use borrow.Author.Rules.{rules}
 use Rattle.older_model.proofs.steps.indexes_wrong.Goals as goal
 
 pub returns : goal.returns

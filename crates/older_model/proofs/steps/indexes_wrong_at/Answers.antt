@@ -1,5 +1,4 @@
 -- `older_model::steps::indexes_wrong_at` meets its contract: byte j of what is left from an offset is byte at + j of all.
-use borrow.Author.Rules.{rules}
 use Rattle.older_model.proofs.Laws.{indexes_at}
 use Rattle.older_model.proofs.steps.indexes_wrong_at.Goals as goal
 

@@ -1,5 +1,4 @@
 -- `older_model::steps::v2_code_len_wrong` meets its contract: `code_len_wrong_at` promises the first of the two.
-use borrow.Author.Rules.{rules}
 use Rattle.older_model.specs.Steps.{v2_code_len_wrong}
 use Rattle.older_model.proofs.steps.v2_code_len_wrong.Goals as goal
 

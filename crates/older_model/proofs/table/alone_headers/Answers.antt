@@ -1,5 +1,4 @@
 -- `older_model::table::alone_headers` meets its contract: the key sheet's row, and then the V2 header's.
-use borrow.Author.Rules.{rules}
 use Rattle.header.proofs.Rows.{rows}
 use Rattle.older_model.proofs.table.alone_headers.Goals as goal
 

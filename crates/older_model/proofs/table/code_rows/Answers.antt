@@ -1,5 +1,4 @@
 -- `older_model::table::code_rows` meets its contract: the two groups are searched in order.
-use borrow.Author.Rules.{rules}
 use Rattle.header.proofs.Rows.{rows}
 use Rattle.older_model.specs.Check.{code_rows}
 use Rattle.older_model.proofs.table.code_rows.Goals as goal

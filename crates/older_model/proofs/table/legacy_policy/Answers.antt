@@ -1,5 +1,4 @@
 -- `older_model::table::legacy_policy` meets its contract: each test is a row's by its promise, in the table's order.
-use borrow.Author.Rules.{rules}
 use Rattle.header.proofs.Rows.{rows}
 use Rattle.older_model.specs.Check.{legacy_policy}
 use Rattle.older_model.proofs.table.legacy_policy.Goals as goal

@@ -1,5 +1,4 @@
 -- `older_model::table::legacy_rows` meets its contract: the two groups are searched in order.
-use borrow.Author.Rules.{rules}
 use Rattle.header.proofs.Rows.{rows}
 use Rattle.older_model.specs.Check.{legacy_rows}
 use Rattle.older_model.proofs.table.legacy_rows.Goals as goal

@@ -1,5 +1,4 @@
 -- `older_model::table::pair_headers` meets its contract: the key sheet's row, the legacy header's rows, and then the V2 header's.
-use borrow.Author.Rules.{rules}
 use Rattle.header.proofs.Rows.{rows}
 use Rattle.older_model.proofs.table.pair_headers.Goals as goal
 

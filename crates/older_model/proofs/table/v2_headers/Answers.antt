@@ -1,5 +1,4 @@
 -- `older_model::table::v2_headers` meets its contract: the two groups are searched in order.
-use borrow.Author.Rules.{rules}
 use Rattle.header.proofs.Rows.{rows}
 use Rattle.older_model.proofs.table.v2_headers.Goals as goal
 

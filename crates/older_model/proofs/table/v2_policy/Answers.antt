@@ -1,5 +1,4 @@
 -- `older_model::table::v2_policy` meets its contract: each test is a row's by its promise, in the table's order.
-use borrow.Author.Rules.{rules}
 use Rattle.header.proofs.Rows.{rows}
 use Rattle.older_model.specs.Check.{v2_policy}
 use Rattle.older_model.proofs.table.v2_policy.Goals as goal
