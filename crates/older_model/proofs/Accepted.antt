@@ -2,17 +2,15 @@
 -- Assumes nothing.
 use Prim.Native.Nat.{ℕ, ◌+◌, ◌≤◌}
 use mathlib.Core.Path.{◌≡◌, refl, sym, subst, ap, ◌∙◌}
-use mathlib.Core.Bool.{Bool, true, false, not}
-use mathlib.Core.List.{List, [], ◌∷◌}
+use mathlib.Core.Bool.{Bool, false, not}
+use mathlib.Core.List.{List, []}
 use native.Mathlib.Omega.{arith}
 use lib.ListN.{length, take, drop}
 use borrow.Author.Tests.{ltb-false, le-ltb, not-false}
-use Rattle.octets.specs.Read.{all_are}
 use Rattle.code_header.specs.Layout.{code_end_at}
 use Rattle.code_header.specs.Tests.{bytes_follow_at, tail_not_at}
 use Rattle.header.specs.Table.{Row, refusal, first_failing}
 use Rattle.header.specs.declared.Refusal.{Refusal}
-use Rattle.header.specs.declared.Outcome.{Outcome}
 use Rattle.header.specs.declared.Outcome.TheVariants.{Pass, Refused}
 use Rattle.header.proofs.Rows.{fails_here, Numbered, first_numbered}
 use Rattle.image.specs.Answer.{image_at, answer_of}
@@ -28,7 +26,7 @@ use Rattle.older_model.specs.Theorems.{KeySheet, IsV2, IsPair, EndsAt, ErasedFro
 use Rattle.older_model.proofs.Signers.{sheet_fails}
 use Rattle.older_model.proofs.Hashes.{code_is}
 use Rattle.older_model.proofs.Refused.{alone_before, pair_before, refuses_v2, refuses_legacy}
-use Rattle.older_model.proofs.Rows.{V2Stands, alone_stands, alone_passes, pair_stands, pair_passes, alone_numbered, pair_numbered}
+use Rattle.older_model.proofs.Rows.{alone_stands, alone_passes, pair_stands, pair_passes, alone_numbered, pair_numbered}
 
 -- ---- one form, by its rows
 

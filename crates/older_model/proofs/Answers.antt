@@ -1,14 +1,13 @@
 -- The digest questions, answered exactly for their headers.
 -- Assumes nothing.
 use Prim.Native.Nat.{ℕ, ◌+◌, ◌≤◌, ◌<◌}
-use mathlib.Core.Path.{◌≡◌, refl, sym, ap, ◌∙◌}
-use mathlib.Core.Bool.{Bool, true, false}
+use mathlib.Core.Path.{◌≡◌, refl, sym, ◌∙◌}
+use mathlib.Core.Bool.{false}
 use mathlib.Core.List.{List, [], ◌∷◌, ◌++◌}
 use native.Mathlib.Omega.{arith}
-use lib.ListN.{length, take, drop, replicate}
+use lib.ListN.{length, take, drop}
 use borrow.Author.Tests.{ltb-false, le-ltb, lt-ltb}
-use Rattle.octets.specs.Read.{u32_at, between}
-use Rattle.sha256.specs.Fips180.{sha256_of}
+use Rattle.octets.specs.Read.{u32_at}
 use Rattle.header.specs.Table.{Row, step, first_failing}
 use Rattle.header.specs.declared.Refusal.{Refusal}
 use Rattle.header.specs.declared.Outcome.TheVariants.{Pass, Refused}

@@ -1,7 +1,7 @@
 -- The two headers: the rows of each through its zero bytes pass exactly where its fields are as they must be.
 -- Assumes nothing.
-use Prim.Native.Nat.{ℕ, ◌+◌, ◌%◌, ◌≤◌}
-use mathlib.Core.Path.{◌≡◌, refl, sym, ap, ◌∙◌}
+use Prim.Native.Nat.{ℕ, ◌+◌, ◌%◌}
+use mathlib.Core.Path.{◌≡◌, refl, sym, ap}
 use mathlib.Core.Bool.{Bool, true, false, not, ◌||◌}
 use mathlib.Core.List.{List}
 use native.Mathlib.Omega.{arith}
@@ -18,7 +18,7 @@ use Rattle.header.specs.Table.{refusal, first_failing}
 use Rattle.header.specs.declared.Outcome.TheVariants.{Pass, Refused}
 use Rattle.header.proofs.Rows.{passes_here, fails_here, ends, pass_head, pass_tail}
 use Rattle.image.proofs.Parts.{part_taken}
-use Rattle.older_model.specs.Steps.{TRZR, TRZF, most_code, legacy_len, legacy_code_len, legacy_magic_missing, legacy_cut, legacy_code_len_wrong, legacy_bytes_not_zero, v2_code_len_wrong, code_len_other, v2_bytes_not_zero}
+use Rattle.older_model.specs.Steps.{TRZR, TRZF, most_code, legacy_code_len, legacy_magic_missing, legacy_cut, legacy_code_len_wrong, legacy_bytes_not_zero, v2_code_len_wrong, code_len_other, v2_bytes_not_zero}
 use Rattle.older_model.specs.Check.{legacy_shape, v2_shape}
 use Rattle.older_model.specs.Theorems.{LegacyHeader, V2Header}
 

@@ -2,25 +2,23 @@
 -- Assumes nothing.
 use Prim.Native.Nat.{ℕ, ◌+◌, ◌<◌}
 use mathlib.Core.Path.{◌≡◌, refl, sym}
-use mathlib.Core.Bool.{Bool, true, false}
-use mathlib.Core.List.{List, ◌∷◌, [], ◌++◌}
+use mathlib.Core.Bool.{Bool, false}
+use mathlib.Core.List.{List, ◌++◌}
 use lib.ListN.{length, take, drop}
-use lib.Dec.{eqb}
 use borrow.Author.Tests.{lt-ltb}
 use Rattle.octets.specs.Read.{u32_at}
-use Rattle.code_header.specs.Layout.{code_len_at, code_end_at}
-use Rattle.code_header.proofs.Facts.{inside_code_len, magic_passes, magic_missing_lem, time_passes}
+use Rattle.code_header.specs.Layout.{code_end_at}
+use Rattle.code_header.proofs.Facts.{magic_missing_lem, time_passes}
 use Rattle.header.specs.Table.{Row, refusal, first_failing, extent_rows_at}
 use Rattle.header.specs.declared.Refusal.{Refusal}
-use Rattle.header.specs.declared.Outcome.TheVariants.{Pass, Refused}
+use Rattle.header.specs.declared.Outcome.TheVariants.{Refused}
 use Rattle.header.proofs.Rows.{fails_here, passes_here, stage_passes, stage_fails}
 use Rattle.image.specs.Answer.{image_at, answer_of}
-use Rattle.image.specs.declared.Answer.{Answer}
 use Rattle.image.proofs.Facts.{rejected}
 use Rattle.older_model.specs.declared.OlderInputs.{OlderInputs}
-use Rattle.older_model.specs.Steps.{TRZR, TRZF, legacy_len, legacy_magic_missing, v2_code_len_wrong, code_len_other}
+use Rattle.older_model.specs.Steps.{TRZR, TRZF, legacy_len, legacy_magic_missing, code_len_other}
 use Rattle.older_model.specs.Check.{legacy_shape, legacy_policy, legacy_rows, v2_shape, v2_policy, code_rows, v2_rows, alone_rows, pair_rows}
-use Rattle.older_model.specs.Theorems.{LegacyHeader, V2Header, KeySheet, ThreeKeys, AllYes, SignedByThree, Timely, LegacyBefore, refused, RefusesV2, RefusesLegacy}
+use Rattle.older_model.specs.Theorems.{LegacyHeader, V2Header, KeySheet, ThreeKeys, AllYes, SignedByThree, Timely, LegacyBefore, RefusesV2, RefusesLegacy}
 use Rattle.older_model.proofs.Signers.{sheet_passes, indexes_pass, indexes_fail, verdicts_fail}
 use Rattle.older_model.proofs.Headers.{v2_passes, v2_unlinked, legacy_passes, linked_passes, linked_fails}
 use Rattle.older_model.proofs.Rows.{policy_passes, legacy_rows_pass}

@@ -1,18 +1,16 @@
 -- The rows of the two forms: they pass exactly where the headers, the signers, the extent and the hashes are as they must be.
 -- Assumes nothing.
-use Prim.Native.Nat.{ℕ, ◌+◌, ◌*◌, ◌≤◌}
-use mathlib.Core.Path.{◌≡◌, refl, sym, ap, ◌∙◌}
-use mathlib.Core.Bool.{Bool, true, false, not}
-use mathlib.Core.List.{List, [], ◌∷◌, ◌++◌}
+use Prim.Native.Nat.{ℕ, ◌+◌, ◌≤◌}
+use mathlib.Core.Path.{◌≡◌, refl, sym}
+use mathlib.Core.Bool.{Bool, false}
+use mathlib.Core.List.{List}
 use native.Mathlib.Omega.{arith}
-use lib.ListN.{length, drop}
-use borrow.Author.Tests.{ltb-false, le-ltb, not-false}
-use Rattle.octets.specs.Read.{u32_at, all_are}
+use lib.ListN.{length}
+use Rattle.octets.specs.Read.{u32_at}
 use Rattle.code_header.specs.Layout.{code_end_at}
-use Rattle.code_header.specs.Tests.{bytes_follow_at, tail_not_at}
 use Rattle.code_header.proofs.Facts.{in_time, time_passes}
 use Rattle.header.specs.Table.{first_failing, extent_rows_at}
-use Rattle.header.specs.declared.Outcome.TheVariants.{Pass, Refused}
+use Rattle.header.specs.declared.Outcome.TheVariants.{Pass}
 use Rattle.header.proofs.Facts.{extent_passes, passing_extent}
 use Rattle.header.proofs.Rows.{passes_here, ends, pass_head, pass_tail, stage_first, stage_then, stage_passes, Numbered, numbered_append, extent_numbered}
 use Rattle.sha256.specs.Fips180.{sha256_of}
@@ -23,7 +21,7 @@ use Rattle.image.proofs.Hashes.{chunks_numbered}
 use Rattle.older_model.specs.declared.OlderInputs.{OlderInputs}
 use Rattle.older_model.specs.Steps.{legacy_len, first_room, code_len_other}
 use Rattle.older_model.specs.Check.{legacy_shape, legacy_policy, legacy_rows, v2_shape, v2_policy, code_rows, v2_rows, alone_rows, pair_rows}
-use Rattle.older_model.specs.Theorems.{LegacyHeader, V2Header, KeySheet, SignedByThree, Timely, IsV2, IsPair}
+use Rattle.older_model.specs.Theorems.{LegacyHeader, KeySheet, SignedByThree, Timely, IsV2, IsPair}
 use Rattle.older_model.proofs.Signers.{sheet_is, sheet_passes, signed_is, indexes_pass, verdicts_pass}
 use Rattle.older_model.proofs.Headers.{v2_is, v2_other, v2_passes, legacy_is, legacy_passes, linked_is, linked_passes}
 use Rattle.older_model.proofs.Hashes.{hashes_used, hashes_unused, hashes_pass}

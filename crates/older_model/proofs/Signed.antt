@@ -1,13 +1,13 @@
 -- What a V2 header signs: behind the indexes of a header that passes there are zeros, so that zeros from the signatures on are the same bytes.
 -- Assumes nothing.
 use Prim.Native.Nat.{ℕ, ◌+◌}
-use mathlib.Core.Path.{◌≡◌, refl, sym, ap, ap₂, ◌∙◌}
+use mathlib.Core.Path.{◌≡◌, refl, ap, ap₂, ◌∙◌}
 use mathlib.Core.Bool.{Bool, true}
 use mathlib.Core.List.{List, [], ◌∷◌, ◌++◌}
 use native.Mathlib.Omega.{arith}
 use lib.Dec.{eqb}
 use lib.ListN.{length, replicate}
-use borrow.Author.Tests.{eqb-true, not-false}
+use borrow.Author.Tests.{eqb-true}
 use Rattle.octets.specs.Read.{between, all_are}
 use Rattle.octets.proofs.Laws.{and_left, and_right}
 use Rattle.sha256.specs.Fips180.{sha256_of}

@@ -2,7 +2,7 @@
 -- Assumes nothing.
 use Prim.Native.Nat.{ℕ, ◌+◌, ◌≤◌}
 use mathlib.Core.Path.{◌≡◌, refl}
-use mathlib.Core.Bool.{Bool, true, false, not, ◌&&◌, ◌||◌}
+use mathlib.Core.Bool.{Bool, true, false, ◌&&◌, ◌||◌}
 use mathlib.Core.List.{List}
 use native.Mathlib.Omega.{arith}
 use lib.Dec.{leb, ltb, eqb}
@@ -10,7 +10,7 @@ use lib.ListN.{get_or}
 use borrow.Author.Tests.{ltb-false, le-ltb, leb-true, le-leb, eqb-false, ne_eqb, not-false}
 use Rattle.octets.proofs.Laws.{and_left, and_right, or_left, or_right}
 use Rattle.older_model.specs.declared.Verdicts.{Verdicts}
-use Rattle.older_model.specs.Steps.{sheet_impossible, no_key, indexes_wrong, indexes_wrong_at, verdict_missing}
+use Rattle.older_model.specs.Steps.{sheet_impossible, no_key, indexes_wrong_at, verdict_missing}
 use Rattle.older_model.specs.Theorems.{KeySheet, ThreeKeys, AllYes, SignedByThree}
 
 -- ---- the key sheet

@@ -3,7 +3,7 @@
 use Rattle.std.specs.Prelude.{ℕ, ◌+◌, ◌-◌, List, [], ◌∷◌, ◌++◌, Bool, false, ltb, length, replicate}
 use Rattle.octets.specs.Read.{between}
 use Rattle.sha256.specs.Fips180.{sha256_of}
-use Rattle.header.specs.Table.{Row, step, first_failing}
+use Rattle.header.specs.Table.{step, first_failing}
 use Rattle.signing.specs.Digests.{answered}
 use Rattle.signing.specs.declared.Digest.{Digest}
 use Rattle.older_model.specs.Steps.{legacy_len, legacy_code_len, code_len_other}

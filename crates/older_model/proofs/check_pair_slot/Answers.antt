@@ -1,5 +1,4 @@
 -- `older_model::check_pair_slot` meets its contract: the rows are those of the headers and of the code, with the test of the later bytes that is promised.
-use borrow.Author.Rules.{rules}
 use Rattle.header.proofs.Told.{told_too}
 use Rattle.image.specs.Answer.{told}
 use Rattle.older_model.specs.Check.{check_pair_slot}

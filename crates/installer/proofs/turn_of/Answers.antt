@@ -1,0 +1,27 @@
+-- By the reply's cases.
+use mathlib.Core.Path.{ap}
+use Rattle.sessions.specs.Calls.{turn}
+use Rattle.sessions.specs.declared.Session.{Session}
+use Rattle.sessions.specs.declared.Reply.TheVariants.{Done}
+use Rattle.installer.proofs.turn_of.Goals as goal
+
+pub returns-in-Accepted : goal.returns-in-Accepted
+returns-in-Accepted c = rw c.in-Accepted.is (ap (λ (s : Session). turn s Done) c.with_phase.ensures)
+
+pub returns-in-Begun : goal.returns-in-Begun
+returns-in-Begun c = rw c.in-Begun.is
+
+pub returns-in-Erased : goal.returns-in-Erased
+returns-in-Erased c = rw c.in-Erased.is
+
+pub returns-in-Took : goal.returns-in-Took
+returns-in-Took c = rw c.in-Took.is
+
+pub returns-in-Done : goal.returns-in-Done
+returns-in-Done c = rw c.in-Done.is
+
+pub returns-in-Refused : goal.returns-in-Refused
+returns-in-Refused c = rw c.in-Refused.is
+
+pub returns-in-Rejected : goal.returns-in-Rejected
+returns-in-Rejected c = rw c.in-Rejected.is
