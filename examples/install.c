@@ -6,7 +6,8 @@
  * image or is refused with 1, and the next install is Done. The exit status is 0 if that is so;
  * otherwise it is 1, and the first EXPECT that does not hold is printed. It is valid C99 and C++:
  *
- *     gcc -std=c99 -Iinclude examples/install.c target/staticlib/libthimmorel.a -o target/install
+ *     mkdir -p target
+ *     gcc -std=c99 -Iinclude examples/install.c crates/thimmorel/out/libthimmorel.a -o target/install
  */
 
 #include <thimmorel.h>

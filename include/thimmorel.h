@@ -30,11 +30,11 @@ extern "C" {
  *
  * ## Linking
  *
- * `rt staticlib thimmorel` writes `target/staticlib/libthimmorel.a`, for x86-64 Linux. A program
- * includes this header and links the archive, which needs `memcpy` and `memset` of the C library
- * and nothing else. The header has no type whose size depends on the machine: the length of a slice
- * and the places in it are `uint64_t`, and so are the numbers in a struct with places; all other
- * numbers are `uint32_t`.
+ * `rt lib --cpu x86-64`, in the folder crates/thimmorel, writes `out/libthimmorel.a` there, for
+ * x86-64 Linux. A program includes this header and links the archive, which needs `memcpy` and
+ * `memset` of the C library and nothing else. The header has no type whose size depends on the
+ * machine: the length of a slice and the places in it are `uint64_t`, and so are the numbers in a
+ * struct with places; all other numbers are `uint32_t`.
  *
  * ## Memory
  *

@@ -1,12 +1,12 @@
 //! The inspecting program, as a user runs it: bytes on standard input, one line on standard output.
-//! `rt check inspect` builds it.
+//! `rt run` in crates/inspect builds it, and so does `rt ci`.
 
 use std::io::Write;
 use std::process::{Command, Stdio};
 use std::thread::sleep;
 use std::time::Duration;
 
-const PROGRAM: &str = concat!(env!("CARGO_MANIFEST_DIR"), "/../target/bin/inspect");
+const PROGRAM: &str = concat!(env!("CARGO_MANIFEST_DIR"), "/../crates/inspect/out/inspect");
 const IMAGE: &[u8] = include_bytes!("../../crates/inspect/stdin");
 const LIMIT: usize = 65_536;
 
@@ -16,7 +16,7 @@ fn inspect(pieces: &[&[u8]]) -> String {
         .stdin(Stdio::piped())
         .stdout(Stdio::piped())
         .spawn()
-        .expect("`rt check inspect` builds the program");
+        .expect("`rt run` in crates/inspect builds the program");
     let mut input = program.stdin.take().expect("it is piped");
     for (i, piece) in pieces.iter().enumerate() {
         if i > 0 {

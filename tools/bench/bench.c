@@ -3,8 +3,8 @@
  * SHA-256, in turn, on the same bytes. Prints, for each size, the time of the other divided by ours:
  * 1.07 says that ours is 7 percent faster. A time alone says nothing about another machine.
  *
- * Another table compares our BLAKE2s by itself, as it is now, with an earlier version of it and
- * with a form that copies each block.
+ * Another table compares our BLAKE2s by itself, as it is now, with a form that copies each block and,
+ * where `run` is given a commit, with the version of that commit.
  */
 
 #define _POSIX_C_SOURCE 200809L

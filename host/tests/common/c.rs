@@ -57,7 +57,7 @@ fn build(path: &str, compiler: &str, language: &[&str]) -> PathBuf {
         .arg(format!("-I{ROOT}/include"))
         .arg(format!("{ROOT}/{path}"))
         .args(["-x", "none"])
-        .arg(format!("{ROOT}/target/staticlib/libthimmorel.a"))
+        .arg(format!("{ROOT}/crates/thimmorel/out/libthimmorel.a"))
         .arg("-o")
         .arg(&program)
         .status()
