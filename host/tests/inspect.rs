@@ -1,5 +1,5 @@
 //! The inspecting program, as a user runs it: bytes on standard input, one line on standard output.
-//! `rt run` in crates/inspect builds it, and so does `rt ci`.
+//! `rt run` in crates/inspect builds it, and so does the gate's `rt ci`.
 
 use std::io::Write;
 use std::process::{Command, Stdio};
