@@ -12,12 +12,12 @@ loop-i-init c = (omega arith, omega arith, refl, search rules, none _ _ (omega a
 
 pub loop-i-preserved : goal.loop-i-preserved
 loop-i-preserved c = (
-      omega arith,
-      omega (arith, c.put_hash-at.ensures.0, c.loop-i.invariant.1),
-      omega arith,
-      c.loop-i.invariant.3,
-      rw (joined_more c.args.table c.loop-i.i (omega arith)) (next c.loop-i.invariant.4 c.put_hash-at.ensures.1),
-    )
+  omega arith,
+  omega (arith, c.put_hash-at.ensures.0, c.loop-i.invariant.1),
+  omega arith,
+  c.loop-i.invariant.3,
+  rw (joined_more c.args.table c.loop-i.i (omega arith)) (next c.loop-i.invariant.4 c.put_hash-at.ensures.1),
+)
 
 pub returns : goal.returns
 returns c = let e : c.loop-i.i ≡ 16 = omega arith in

@@ -44,7 +44,7 @@ unfolding vendor_fields
 returns c =
     let r : VendorFits c.args.f (length c.args.keys.now) (length c.args.string.now) (length c.args.picture.now) (length c.args.out.now) = vendor_fits _ _ _ _ _ (sym c.vendor_refusals-refusal.ensures ∙ c.in_default.is) in
     let v : c.size_of-v.result ≡ vendor_size c.args.f.n (length c.args.string.now) (length c.args.picture.now) =
-        c.size_of-v.ensures ∙ ap (λ (x : ℕ). round_up 512 (x + length c.args.picture.now + 65)) c.picture_start-start.ensures in
+    c.size_of-v.ensures ∙ ap (λ (x : ℕ). round_up 512 (x + length c.args.picture.now + 65)) c.picture_start-start.ensures in
     let l = length_front c.size_of-v.result c.args.f c.args.keys.now c.args.string.now r.keys in
     let s : c.vendor_front-at.result ≡ picture_start c.args.f.n (length c.args.string.now) = omega (arith, c.vendor_front-at.ensures.place, l) in
     let both = told_beside told (wrote c.vendor_refusals-refusal.ensures c.in_default.is v (rw (s, v) at (next c.vendor_front-at.ensures c.vendor_back.ensures))) in
