@@ -1,5 +1,4 @@
 -- The plan's operation is made, and what is left of the plan comes back.
-use borrow.Author.Rules.{rules}
 use Rattle.installer.proofs.Told.{turn_and_slot_told}
 use Rattle.installer.proofs.fill.Goals as goal
 

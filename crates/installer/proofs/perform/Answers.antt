@@ -1,5 +1,4 @@
 -- By the operation's cases, each the promise of its call.
-use borrow.Author.Rules.{rules}
 use Rattle.installer.proofs.perform.Goals as goal
 
 pub returns-in-Nothing : goal.returns-in-Nothing

@@ -1,6 +1,4 @@
 -- The bytes of the number are those of the word.
-use mathlib.Core.Path.{◌∙◌}
-use borrow.Author.Rules.{rules}
 use Rattle.installer.proofs.plans.join.Goals as goal
 
 pub returns : goal.returns

@@ -20,7 +20,7 @@ whole d s e h =
 pub returns-then-k-eq4 : goal.returns-then-k-eq4
 returns-then-k-eq4 c = let n : c.args.k ≡ 4 = c.if-k-eq4.true in
     let z : c.args.got ≡ 0 = omega arith in
-    c.number_of_lem.ensures ∙ rw (n, z) (whole c.args.held c.args.piece.now (search rules) (omega arith))
+    c.number_of.ensures ∙ rw (n, z) (whole c.args.held c.args.piece.now (search rules) (omega arith))
 
 pub bounds-piece-0 : goal.bounds-piece-0
 bounds-piece-0 c = omega arith

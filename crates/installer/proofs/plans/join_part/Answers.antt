@@ -23,10 +23,10 @@ loop-i-smaller c = omega arith
 
 pub loop-i-preserved : goal.loop-i-preserved
 loop-i-preserved c = (
-      omega arith,
-      c.loop-i.invariant.1,
-      rw (c.loop-i.invariant.2, add-one, c.byte_at.ensures) (paste-suc c.args.held c.args.got c.args.piece.now c.loop-i.i 0 (omega arith) (omega arith)),
-    )
+  omega arith,
+  c.loop-i.invariant.1,
+  rw (c.loop-i.invariant.2, add-one, c.byte_at.ensures) (paste-suc c.args.held c.args.got c.args.piece.now c.loop-i.i 0 (omega arith) (omega arith)),
+)
 
 pub returns : goal.returns
 returns c = let e : c.loop-i.i ≡ c.args.k = omega arith in
