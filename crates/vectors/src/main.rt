@@ -12,45 +12,41 @@
 
 ghost use Rattle.std.specs.Prelude.{◌+◌, ◌≤◌};
 
-use libc::STDOUT_FILENO;
+use std::io;
 use std::num::wrapping_add_u32;
 
 fn wide(x: u8) -> u64 {
     x as u64
 }
 
-fn print_digest(digest: [u8; 32]) {
+fn print_digest(rt: &impl Print, digest: [u8; 32]) -> io::Result<()> {
     let mut i: usize = 0;
     while i < 32 {
-        io::print_hex(STDOUT_FILENO, wide(digest[i]), 2);
+        print!(rt; "{:02x}", wide(digest[i]))?;
         i += 1;
     }
-    io::write_all(STDOUT_FILENO, b"\n");
+    rt.write_all(b"\n")
 }
 
-fn print_vector(label: &[u8], bytes: &[u8]) {
-    io::write_all(STDOUT_FILENO, label);
-    print_digest(blake2s::blake2s(bytes));
+fn print_vector(rt: &impl Print, label: &[u8], bytes: &[u8]) -> io::Result<()> {
+    rt.write_all(label)?;
+    print_digest(rt, blake2s::blake2s(bytes))
 }
 
-fn print_sha256(label: &[u8], bytes: &[u8]) {
-    io::write_all(STDOUT_FILENO, b"sha256 ");
-    io::write_all(STDOUT_FILENO, label);
-    print_digest(sha256::sha256(bytes));
+fn print_sha256(rt: &impl Print, label: &[u8], bytes: &[u8]) -> io::Result<()> {
+    rt.write_all(b"sha256 ")?;
+    rt.write_all(label)?;
+    print_digest(rt, sha256::sha256(bytes))
 }
 
 // The line of the first bytes, which are all x: `sha256 LENGTH of X DIGEST`.
-fn print_repeated(bytes: &[u8], length: usize, x: u8) {
+fn print_repeated(rt: &impl Print, bytes: &[u8], length: usize, x: u8) -> io::Result<()> {
     if bytes.len() < length {
-        return;
+        return Ok(());
     }
     let from: usize = 0;
-    io::write_all(STDOUT_FILENO, b"sha256 ");
-    io::print_decimal(STDOUT_FILENO, length as u64);
-    io::write_all(STDOUT_FILENO, b" of ");
-    io::print_decimal(STDOUT_FILENO, wide(x));
-    io::write_all(STDOUT_FILENO, b" ");
-    print_digest(sha256::sha256(&bytes[from..length]));
+    print!(rt; "sha256 {length} of {} ", wide(x))?;
+    print_digest(rt, sha256::sha256(&bytes[from..length]))
 }
 
 // The appendix starts from this prime, times the length, modulo 2^32.
@@ -86,11 +82,9 @@ fn sequence_digest(length: usize) -> [u8; 32]
     blake2s::blake2s(&bytes[from..length])
 }
 
-fn print_sequence(length: usize, digest: [u8; 32]) {
-    io::write_all(STDOUT_FILENO, b"sequence ");
-    io::print_decimal(STDOUT_FILENO, length as u64);
-    io::write_all(STDOUT_FILENO, b" ");
-    print_digest(digest);
+fn print_sequence(rt: &impl Print, length: usize, digest: [u8; 32]) -> io::Result<()> {
+    print!(rt; "sequence {length} ")?;
+    print_digest(rt, digest)
 }
 
 fn put(all: &mut [u8; 192], at: usize, digest: [u8; 32])
@@ -104,63 +98,65 @@ fn put(all: &mut [u8; 192], at: usize, digest: [u8; 32])
 }
 
 // Writes the line of one input, and keeps its digest at its place among the six.
-fn self_test_input(all: &mut [u8; 192], at: usize, length: usize)
+fn self_test_input(rt: &impl Print, all: &mut [u8; 192], at: usize, length: usize) -> io::Result<()>
     requires at_bound { at + 32 ≤ 192 }
     requires length_len_bound { length ≤ 1024 }
 {
     let digest = sequence_digest(length);
-    print_sequence(length, digest);
+    print_sequence(rt, length, digest)?;
     put(all, at, digest);
+    Ok(())
 }
 
-fn print_all(all: &[u8; 192]) {
-    print_vector(b"sequences ", all);
+fn print_all(rt: &impl Print, all: &[u8; 192]) -> io::Result<()> {
+    print_vector(rt, b"sequences ", all)
 }
 
-fn self_test() {
+fn self_test(rt: &impl Print) -> io::Result<()> {
     let mut all = [0u8; 192];
-    self_test_input(&mut all, 0, 0);
-    self_test_input(&mut all, 32, 3);
-    self_test_input(&mut all, 64, 64);
-    self_test_input(&mut all, 96, 65);
-    self_test_input(&mut all, 128, 255);
-    self_test_input(&mut all, 160, 1024);
-    print_all(&all);
+    self_test_input(rt, &mut all, 0, 0)?;
+    self_test_input(rt, &mut all, 32, 3)?;
+    self_test_input(rt, &mut all, 64, 64)?;
+    self_test_input(rt, &mut all, 96, 65)?;
+    self_test_input(rt, &mut all, 128, 255)?;
+    self_test_input(rt, &mut all, 160, 1024)?;
+    print_all(rt, &all)
 }
 
-fn sha256_messages() {
-    print_sha256(b"abc ", b"abc");
+fn sha256_messages(rt: &impl Print) -> io::Result<()> {
+    print_sha256(rt, b"abc ", b"abc")?;
     print_sha256(
+        rt,
         b"abcd.. ",
         b"abcdbcdecdefdefgefghfghighijhijkijkljklmklmnlmnomnopnopq",
-    );
-    print_sha256(b"empty ", b"");
-    print_sha256(b"bd ", b"\xBD");
-    print_sha256(b"c98c8e55 ", b"\xC9\x8C\x8E\x55");
+    )?;
+    print_sha256(rt, b"empty ", b"")?;
+    print_sha256(rt, b"bd ", b"\xBD")?;
+    print_sha256(rt, b"c98c8e55 ", b"\xC9\x8C\x8E\x55")
 }
 
 // So many bytes x.
-fn repeated(length: usize, x: u8) {
+fn repeated(rt: &impl Print, length: usize, x: u8) -> io::Result<()> {
     let bytes = [x; 1000000];
-    print_repeated(&bytes, length, x);
+    print_repeated(rt, &bytes, length, x)
 }
 
-fn sha256_repeated() {
-    repeated(55, 0);
-    repeated(56, 0);
-    repeated(57, 0);
-    repeated(64, 0);
-    repeated(1000, 0);
-    repeated(1000, 0x41);
-    repeated(1005, 0x55);
-    repeated(1000000, 0);
-    repeated(1000000, b'a');
+fn sha256_repeated(rt: &impl Print) -> io::Result<()> {
+    repeated(rt, 55, 0)?;
+    repeated(rt, 56, 0)?;
+    repeated(rt, 57, 0)?;
+    repeated(rt, 64, 0)?;
+    repeated(rt, 1000, 0)?;
+    repeated(rt, 1000, 0x41)?;
+    repeated(rt, 1005, 0x55)?;
+    repeated(rt, 1000000, 0)?;
+    repeated(rt, 1000000, b'a')
 }
 
-fn main() {
-    print_vector(b"abc ", b"abc");
-    print_vector(b"empty ", b"");
-    self_test();
-    sha256_messages();
-    sha256_repeated();
+fn main(rt: HostRuntime) -> io::Result<()> {
+    print_vector(&rt, b"abc ", b"abc")?;
+    print_vector(&rt, b"empty ", b"")?;
+    self_test(&rt)?;
+    sha256_messages(&rt)?;
+    sha256_repeated(&rt)
 }
