@@ -5,23 +5,26 @@
 // library's; what is read and written is the C library's word.
 #![tactic(auto)]
 
+ghost use Rattle.std.specs.Prelude.{◌≤◌, length, IfOk};
+
 use header::{Inputs, Refusal};
 use image::{Answer, check_file};
-use libc::{STDIN_FILENO, STDOUT_FILENO};
+use std::io;
+use std::io::Read;
 
-fn print_number(label: &[u8], number: u32) {
-    io::write_all(STDOUT_FILENO, label);
-    io::print_decimal(STDOUT_FILENO, number as u64);
+fn print_number(rt: &impl Print, label: &[u8], number: u32) -> io::Result<()> {
+    rt.write_all(label)?;
+    print!(rt; "{number}")
 }
 
-fn print_refusal(r: Refusal) {
-    print_number(b"refused ", r.number);
-    print_number(b" part ", r.part);
-    print_number(b" chunk ", r.chunk);
-    io::write_all(STDOUT_FILENO, b"\n");
+fn print_refusal(rt: &impl Print, r: Refusal) -> io::Result<()> {
+    print_number(rt, b"refused ", r.number)?;
+    print_number(rt, b" part ", r.part)?;
+    print_number(rt, b" chunk ", r.chunk)?;
+    rt.write_all(b"\n")
 }
 
-fn inspect(bytes: &[u8]) {
+fn inspect(rt: &impl Print, bytes: &[u8]) -> io::Result<()> {
     let given = Inputs {
         time: 0,
         m: 2,
@@ -31,20 +34,33 @@ fn inspect(bytes: &[u8]) {
     };
     let answer = check_file(bytes, given);
     match answer {
-        Answer::Accepted(_) => {
-            io::write_all(STDOUT_FILENO, b"accepted\n");
-        }
-        Answer::Rejected(r) => print_refusal(r),
+        Answer::Accepted(_) => rt.write_all(b"accepted\n"),
+        Answer::Rejected(r) => print_refusal(rt, r),
     }
 }
 
-fn main() {
-    let mut buffer = io::large_buffer();
-    let n = io::read_full(STDIN_FILENO, &mut buffer);
-    let mut further = [0u8; 1];
-    if 0 < io::read_full(STDIN_FILENO, &mut further) {
-        io::write_all(STDOUT_FILENO, b"too large\n");
-        return;
+// Reads until the buffer is full or the input ends, and answers how many bytes it put at its start.
+fn read_full(input: &mut impl Read, buffer: &mut [u8]) -> io::Result<usize>
+    ensures { IfOk result (λ n. n ≤ length buffer.new) }
+{
+    let mut done: usize = 0;
+    while done < buffer.len() {
+        let n = input.read(&mut buffer[done..])?;
+        if n == 0 {
+            break;
+        }
+        done += n;
     }
-    inspect(&buffer[..n]);
+    Ok(done)
+}
+
+fn main(rt: HostRuntime) -> io::Result<()> {
+    let mut input = rt.stdin();
+    let mut buffer = [0u8; 65536];
+    let n = read_full(&mut input, &mut buffer)?;
+    let mut further = [0u8; 1];
+    if 0 < read_full(&mut input, &mut further)? {
+        return rt.write_all(b"too large\n");
+    }
+    inspect(&rt, &buffer[..n])
 }
