@@ -5,35 +5,36 @@ use case_rows::rows::number;
 use case_rows::{rows, show};
 use octets::byte_at;
 use sessions::{Reply, Session, Turn};
+use std::io;
 
-pub fn print_reply(reply: Reply) {
+pub fn print_reply(rt: &impl Print, reply: Reply) -> io::Result<()> {
     match reply {
-        Reply::Begun => show::word(rows::BEGUN),
-        Reply::Erased => show::word(rows::ERASED),
-        Reply::Took(count) => show::number(rows::TOOK, count),
-        Reply::Accepted => show::word(rows::ACCEPTED),
-        Reply::Done => show::word(rows::DONE),
-        Reply::Refused(number) => show::number(rows::REFUSED, number as usize),
-        Reply::Rejected(r) => show::refusal(r),
+        Reply::Begun => show::word(rt, rows::BEGUN),
+        Reply::Erased => show::word(rt, rows::ERASED),
+        Reply::Took(count) => show::number(rt, rows::TOOK, count),
+        Reply::Accepted => show::word(rt, rows::ACCEPTED),
+        Reply::Done => show::word(rt, rows::DONE),
+        Reply::Refused(number) => show::number(rt, rows::REFUSED, number as usize),
+        Reply::Rejected(r) => show::refusal(rt, r),
     }
 }
 
 // What a record says was done.
-pub fn print_numbers(s: Session) {
-    show::number(rows::PAGES, s.pages);
-    show::number(rows::TAKEN, s.taken);
-    show::number(rows::OPERATIONS, s.operations);
+pub fn print_numbers(rt: &impl Print, s: Session) -> io::Result<()> {
+    show::number(rt, rows::PAGES, s.pages)?;
+    show::number(rt, rows::TAKEN, s.taken)?;
+    show::number(rt, rows::OPERATIONS, s.operations)
 }
 
-pub fn print_session(s: Session) {
+pub fn print_session(rt: &impl Print, s: Session) -> io::Result<()> {
     let first = s.first;
     let held = s.held;
-    show::number(rows::PHASE, s.phase as usize);
-    show::number(rows::SLOT, s.slot);
-    show::number(rows::FILE, s.file);
-    print_numbers(s);
-    show::bytes(rows::FIRST, &first);
-    show::bytes(rows::HELD, &held);
+    show::number(rt, rows::PHASE, s.phase as usize)?;
+    show::number(rt, rows::SLOT, s.slot)?;
+    show::number(rt, rows::FILE, s.file)?;
+    print_numbers(rt, s)?;
+    show::bytes(rt, rows::FIRST, &first)?;
+    show::bytes(rt, rows::HELD, &held)
 }
 
 fn same_word(a: [u8; 4], b: [u8; 4]) -> bool {

@@ -6,6 +6,7 @@ use case_rows::rows::{narrow, number};
 use case_rows::{build, rows, show};
 use image::{Answer, Version};
 use octets::{byte_at, minus, part, rest, u32_at};
+use std::io;
 use writer::{Firmware, Vendor, Written};
 
 fn sig_at(bytes: &[u8], at: usize) -> [u8; 64] {
@@ -88,28 +89,29 @@ fn written(kind: usize, row: &[u8], image: &[u8], out: &mut [u8]) -> Written {
     firmware_of(header, p.v, part(image, p.code, p.end), out)
 }
 
-fn print_written(written: Written) {
+fn print_written(rt: &impl Print, written: Written) -> io::Result<()> {
     match written {
-        Written::Header(v) => show::number(rows::HEADER, v),
-        Written::Not(number) => show::number(rows::REFUSED, number as usize),
+        Written::Header(v) => show::number(rt, rows::HEADER, v),
+        Written::Not(number) => show::number(rt, rows::REFUSED, number as usize),
     }
 }
 
 // What a writer answers, and the digest of its output, whose bytes were all 165.
-fn write(kind: usize, row: &[u8], image: &[u8], out: &mut [u8]) {
+fn write(rt: &impl Print, kind: usize, row: &[u8], image: &[u8], out: &mut [u8]) -> io::Result<()> {
     let len = out.len();
     build::fill(out, 0, len, 165);
-    print_written(written(kind, row, image, out));
-    show::digest(rows::OUTPUT, out);
+    print_written(rt, written(kind, row, image, out))?;
+    show::digest(rt, rows::OUTPUT, out)
 }
 
 // A row of one writer, whose output has so many bytes as the row says.
-fn one(kind: usize, row: &[u8], image: &[u8], b: &mut [u8]) {
+fn one(rt: &impl Print, kind: usize, row: &[u8], image: &[u8], b: &mut [u8]) -> io::Result<()> {
     let from: usize = 0;
     let room = number(row, rows::ROOM, 1, 65536) as usize;
     if room <= b.len() {
-        write(kind, row, image, &mut b[from..room]);
+        write(rt, kind, row, image, &mut b[from..room])?;
     }
+    Ok(())
 }
 
 // Writes both headers of a file again, from its fields and from the parts that the check hands back.
@@ -124,20 +126,26 @@ fn again(bytes: &[u8], answer: Answer, v: usize, out: &mut [u8]) {
 }
 
 // A row of a round trip: a file is checked, taken apart and written again.
-fn round_trip(row: &[u8], bytes: &[u8], out: &mut [u8]) {
+fn round_trip(rt: &impl Print, row: &[u8], bytes: &[u8], out: &mut [u8]) -> io::Result<()> {
     let v = u32_at(bytes, 4) as usize;
     let answer = image::check_file(bytes, inputs(row));
     build::fill(out, 0, v + 1024, 165);
     again(bytes, answer, v, out);
     let same = octets::starts_with(bytes, part(out, 0, v + 1024));
-    show::word(if same { rows::SAME } else { rows::OTHER });
-    show::answer(answer);
+    show::word(rt, if same { rows::SAME } else { rows::OTHER })?;
+    show::answer(rt, answer)
 }
 
-pub fn answer(kind: usize, row: &[u8], image: &[u8], b: &mut [u8]) {
+pub fn answer(
+    rt: &impl Print,
+    kind: usize,
+    row: &[u8],
+    image: &[u8],
+    b: &mut [u8],
+) -> io::Result<()> {
     if kind == rows::ROUNDTRIP {
-        round_trip(row, build::lent(row, 0, image), b);
+        round_trip(rt, row, build::lent(row, 0, image), b)
     } else {
-        one(kind, row, image, b);
+        one(rt, kind, row, image, b)
     }
 }

@@ -10,6 +10,7 @@ use image::Answer;
 use octets::part;
 use older_model::{OlderInputs, Verdicts};
 use signing::Digest;
+use std::io;
 
 // Yes, unless the row says otherwise.
 fn verdicts(row: &[u8], header: usize) -> Verdicts {
@@ -40,13 +41,13 @@ fn checked(kind: usize, row: &[u8], bytes: &[u8]) -> Answer {
 }
 
 // What a check answers, and the code that is handed back.
-fn check(kind: usize, row: &[u8], bytes: &[u8]) {
+fn check(rt: &impl Print, kind: usize, row: &[u8], bytes: &[u8]) -> io::Result<()> {
     let answer = checked(kind, row, bytes);
-    show::answer(answer);
+    show::answer(rt, answer)?;
     if kind < rows::PAIRFILE {
-        show::part(rows::CODE, older_model::v2_code(bytes, answer));
+        show::part(rt, rows::CODE, older_model::v2_code(bytes, answer))
     } else {
-        show::part(rows::CODE, older_model::pair_code(bytes, answer));
+        show::part(rt, rows::CODE, older_model::pair_code(bytes, answer))
     }
 }
 
@@ -58,11 +59,11 @@ fn asked(kind: usize, bytes: &[u8]) -> Digest {
     }
 }
 
-fn question(kind: usize, bytes: &[u8]) {
+fn question(rt: &impl Print, kind: usize, bytes: &[u8]) -> io::Result<()> {
     let reply = asked(kind, bytes);
     let outcome = reply.outcome;
     let digest = reply.digest;
-    show::question(outcome, digest);
+    show::question(rt, outcome, digest)
 }
 
 fn is_question(kind: usize) -> bool {
@@ -84,15 +85,15 @@ fn later(kind: usize) -> u32 {
 }
 
 // 4 bytes of code unless the row says otherwise.
-pub fn answer(kind: usize, row: &[u8], b: &mut [u8]) {
+pub fn answer(rt: &impl Print, kind: usize, row: &[u8], b: &mut [u8]) -> io::Result<()> {
     let codelen = number(row, rows::CODE, 1, 4);
     let at = place(kind);
     let all = 1024 + at as usize + codelen as usize + later(kind) as usize;
     let lent = number(row, rows::LENT, 1, rows::narrow(all)) as usize;
     images::prepare(row, at, codelen, lent, b);
     if is_question(kind) {
-        question(kind, part(b, 0, lent));
+        question(rt, kind, part(b, 0, lent))
     } else {
-        check(kind, row, part(b, 0, lent));
+        check(rt, kind, row, part(b, 0, lent))
     }
 }

@@ -6,6 +6,7 @@ use case_images::checks::inputs;
 use case_rows::rows::number;
 use case_rows::{rows, show};
 use sessions::{Reply, Session, Turn};
+use std::io;
 use std::num::wrapping_add_usize;
 
 fn is_19(reply: Reply) -> bool {
@@ -70,17 +71,17 @@ fn step(row: &[u8], length: usize, s: Session, file: &[u8], slot: &mut [u8]) -> 
 }
 
 // What an install came to.
-fn print_end(turn: Turn, calls: usize, between: usize) {
+fn print_end(rt: &impl Print, turn: Turn, calls: usize, between: usize) -> io::Result<()> {
     let s = turn.session;
     let reply = turn.reply;
-    calls::print_numbers(s);
-    show::number(rows::CALLS, calls);
-    show::number(rows::BETWEEN, between);
-    calls::print_reply(reply);
+    calls::print_numbers(rt, s)?;
+    show::number(rt, rows::CALLS, calls)?;
+    show::number(rt, rows::BETWEEN, between)?;
+    calls::print_reply(rt, reply)
 }
 
 // All calls up to the end of the session, at most three for each byte of the file.
-fn run(kind: usize, row: &[u8], file: &[u8], slot: &mut [u8]) {
+fn run(rt: &impl Print, kind: usize, row: &[u8], file: &[u8], slot: &mut [u8]) -> io::Result<()> {
     let by = number(row, rows::BY, 1, 4) as usize;
     let limit = 3 * (file.len() % 4294967296);
     let mut turn = installer::begin(slot, file.len());
@@ -90,29 +91,36 @@ fn run(kind: usize, row: &[u8], file: &[u8], slot: &mut [u8]) {
         let session = turn.session;
         between = wrapping_add_usize(between, all_refused(kind, row, session, slot));
         if session.phase != 1 {
-            print_end(turn, calls, between);
-            return;
+            return print_end(rt, turn, calls, between);
         }
         turn = step(row, length(by, calls), session, file, slot);
         calls += 1;
     }
+    Ok(())
 }
 
 // A whole install in a slot that held zeros.
-fn whole(kind: usize, row: &[u8], file: &[u8], slot: &mut [u8]) {
+fn whole(rt: &impl Print, kind: usize, row: &[u8], file: &[u8], slot: &mut [u8]) -> io::Result<()> {
     let len = slot.len();
     case_rows::build::fill(slot, 0, len, 0);
-    run(kind, row, file, slot);
-    show::digest(rows::SLOT, slot);
-    show::answer(image::check_slot(slot, inputs(row)));
+    run(rt, kind, row, file, slot)?;
+    show::digest(rt, rows::SLOT, slot)?;
+    show::answer(rt, image::check_slot(slot, inputs(row)))
 }
 
 // A row of an install: the lengths of the slot, of the file and of its pieces.
-pub fn install(kind: usize, row: &[u8], image: &[u8], b: &mut [u8]) {
+pub fn install(
+    rt: &impl Print,
+    kind: usize,
+    row: &[u8],
+    image: &[u8],
+    b: &mut [u8],
+) -> io::Result<()> {
     let file = octets::part(image, 0, number(row, rows::FILE, 1, 1540) as usize);
     let from: usize = 0;
     let len = number(row, rows::SLOT, 1, 8192) as usize;
     if len <= b.len() {
-        whole(kind, row, file, &mut b[from..len]);
+        whole(rt, kind, row, file, &mut b[from..len])?;
     }
+    Ok(())
 }

@@ -3,60 +3,92 @@
 // each line must say is worked out by `tools/cases` from the specification alone.
 #![tactic(auto)]
 
+ghost use Rattle.std.specs.Prelude.{◌≤◌, length, IfOk};
+
 mod installs;
 mod records;
 
 use case_images::{checks, writers};
 use case_rows::{build, rows, show};
+use std::io;
+use std::io::Read;
 
 // The answer to a row, by what its first word says.
-fn answer(kind: usize, row: &[u8], image: &mut [u8], b: &mut [u8]) {
+fn answer(
+    rt: &impl Print,
+    kind: usize,
+    row: &[u8],
+    image: &mut [u8],
+    b: &mut [u8],
+) -> io::Result<()> {
     match kind {
-        rows::FILE..=rows::TRUST => checks::answer(kind, row, image),
-        rows::ROUNDTRIP..=rows::FIRMWARE => writers::answer(kind, row, image, b),
-        rows::BEGIN => records::begin(row, b),
-        rows::RECORD => records::record(row, image, b),
-        rows::INSTALL..=rows::CROSSED => installs::install(kind, row, image, b),
-        rows::CARD..=rows::CHOOSE => case_loaders::answer(kind, row, image, b),
-        rows::V2FILE..=rows::LEGACYQUESTION => case_older::answer(kind, row, b),
-        _ => show::word(rows::UNKNOWN),
+        rows::FILE..=rows::TRUST => checks::answer(rt, kind, row, image),
+        rows::ROUNDTRIP..=rows::FIRMWARE => writers::answer(rt, kind, row, image, b),
+        rows::BEGIN => records::begin(rt, row, b),
+        rows::RECORD => records::record(rt, row, image, b),
+        rows::INSTALL..=rows::CROSSED => installs::install(rt, kind, row, image, b),
+        rows::CARD..=rows::CHOOSE => case_loaders::answer(rt, kind, row, image, b),
+        rows::V2FILE..=rows::LEGACYQUESTION => case_older::answer(rt, kind, row, b),
+        _ => show::word(rt, rows::UNKNOWN),
     }
 }
 
 // A blank line or one that starts with `#` is a comment.
-fn row(row: &[u8], image: &mut [u8], b: &mut [u8]) {
+fn row(rt: &impl Print, row: &[u8], image: &mut [u8], b: &mut [u8]) -> io::Result<()> {
     if (row.len() == 0) | (octets::byte_at(row, 0) == b'#') {
-        return;
+        return Ok(());
     }
-    show::text(b":");
+    show::text(rt, b":")?;
     build::build(row, image);
-    answer(rows::kind(row), row, image, b);
+    answer(rt, rows::kind(row), row, image, b)
 }
 
 // The line that starts at a place, if one does.
-fn line_at(text: &[u8], at: usize, image: &mut [u8], b: &mut [u8]) {
+fn line_at(
+    rt: &impl Print,
+    text: &[u8],
+    at: usize,
+    image: &mut [u8],
+    b: &mut [u8],
+) -> io::Result<()> {
     if !rows::starts(text, at, b'\n') {
-        return;
+        return Ok(());
     }
     let line = rows::item(text, at, b'\n');
-    show::text(line);
-    row(line, image, b);
-    show::text(b"\n");
+    show::text(rt, line)?;
+    row(rt, line, image, b)?;
+    show::text(rt, b"\n")
 }
 
-fn lines(text: &[u8], image: &mut [u8], b: &mut [u8]) {
+fn lines(rt: &impl Print, text: &[u8], image: &mut [u8], b: &mut [u8]) -> io::Result<()> {
     let mut i: usize = 0;
     while i < text.len() {
-        line_at(text, i, image, b);
+        line_at(rt, text, i, image, b)?;
         i += 1;
     }
+    Ok(())
+}
+
+// Reads until the buffer is full or the input ends, and answers how many bytes it put at its start.
+fn read_full(input: &mut impl Read, buffer: &mut [u8]) -> io::Result<usize>
+    ensures { IfOk result (λ n. n ≤ length buffer.new) }
+{
+    let mut done: usize = 0;
+    while done < buffer.len() {
+        let n = input.read(&mut buffer[done..])?;
+        if n == 0 {
+            break;
+        }
+        done += n;
+    }
+    Ok(done)
 }
 
 // The largest image has 2,097,152 bytes, and a slot of a page more is refused.
-fn main() {
-    let mut text = io::large_buffer();
-    let n = io::read_full(libc::STDIN_FILENO, &mut text);
+fn main(rt: HostRuntime) -> io::Result<()> {
+    let mut text = [0u8; 65536];
+    let n = read_full(&mut rt.stdin(), &mut text)?;
     let mut image = [0u8; 2101248];
     let mut b = [0u8; 2101248];
-    lines(&text[..n], &mut image, &mut b);
+    lines(&rt, &text[..n], &mut image, &mut b)
 }

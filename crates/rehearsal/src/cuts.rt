@@ -6,6 +6,7 @@ use flash::{Operation, word_of};
 use installer::{begin, erase, perform};
 use octets::put::put_bytes;
 use sessions::Session;
+use std::io;
 
 // Which words of a page a cut leaves erased: those at even places, at odd ones, both or neither.
 #[derive(Clone, Copy)]
@@ -45,18 +46,24 @@ fn opened(old: &[u8; 65536], slot: &mut [u8; 65536]) -> Session {
 
 // The power fails inside the erase of each page, and what the next start does is told; then the page is
 // erased, and the next one is due.
-fn cut_pages(name: &[u8], torn: Torn, old: &[u8; 65536], slot: &mut [u8; 65536]) {
+fn cut_pages(
+    rt: &impl Print,
+    name: &[u8],
+    torn: Torn,
+    old: &[u8; 65536],
+    slot: &mut [u8; 65536],
+) -> io::Result<()> {
     let mut session = opened(old, slot);
     let mut run = no_calls(2, slot);
     let mut page: usize = 0;
     while page < 16 {
         tear_page(torn, page, slot);
-        run = followed(name, run, page + 2, slot);
+        run = followed(rt, name, run, page + 2, slot)?;
         let turn = erase(session, slot);
         session = turn.session;
         page += 1;
     }
-    print_run(name, run);
+    print_run(rt, name, run)
 }
 
 fn words(even: bool, odd: bool) -> Torn {
@@ -64,11 +71,12 @@ fn words(even: bool, odd: bool) -> Torn {
 }
 
 // Every way, on every page. The last cut is inside the erase of page 0, and its slot is what is left.
-pub fn cut_each_way(old: &[u8; 65536], slot: &mut [u8; 65536]) {
-    cut_pages(b"no word, ", words(false, false), old, slot);
-    cut_pages(b"every word, ", words(true, true), old, slot);
-    cut_pages(b"even words, ", words(true, false), old, slot);
-    cut_pages(b"odd words, ", words(false, true), old, slot);
+pub fn cut_each_way(rt: &impl Print, old: &[u8; 65536], slot: &mut [u8; 65536]) -> io::Result<()> {
+    cut_pages(rt, b"no word, ", words(false, false), old, slot)?;
+    cut_pages(rt, b"every word, ", words(true, true), old, slot)?;
+    cut_pages(rt, b"even words, ", words(true, false), old, slot)?;
+    cut_pages(rt, b"odd words, ", words(false, true), old, slot)?;
     opened(old, slot);
     tear_page(words(false, true), 0, slot);
+    Ok(())
 }

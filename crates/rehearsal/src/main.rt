@@ -19,6 +19,7 @@ use installer::{ask, begin, close, erase, fill};
 use octets::put::put_bytes;
 use octets::rest;
 use sessions::{Reply, Session, Turn};
+use std::io;
 use table::{
     GIVEN, followed, no_calls, print_again_heading, print_cuts_heading, print_done, print_heading,
     print_once, print_run,
@@ -34,13 +35,14 @@ fn call(erases: bool, session: Session, file: &[u8], slot: &mut [u8]) -> Turn {
 
 // So many calls of one kind, under its name.
 fn repeat(
+    rt: &impl Print,
     name: &[u8],
     erases: bool,
     count: usize,
     before: Session,
     file: &[u8],
     slot: &mut [u8],
-) -> Session {
+) -> io::Result<Session> {
     let mut session = before;
     let mut run = no_calls(1, slot);
     let mut calls: usize = 0;
@@ -48,10 +50,10 @@ fn repeat(
         calls += 1;
         let turn = call(erases, session, file, slot);
         session = turn.session;
-        run = followed(name, run, calls, slot);
+        run = followed(rt, name, run, calls, slot)?;
     }
-    print_run(name, run);
-    session
+    print_run(rt, name, run)?;
+    Ok(session)
 }
 
 fn is_done(reply: Reply) -> bool {
@@ -62,45 +64,50 @@ fn is_done(reply: Reply) -> bool {
 }
 
 // Close is to answer Done.
-fn close_session(session: Session, slot: &mut [u8]) {
+fn close_session(rt: &impl Print, session: Session, slot: &mut [u8]) -> io::Result<()> {
     let turn = close(session, GIVEN, slot);
     let reply = turn.reply;
     if is_done(reply) {
-        print_once(b"close, which answers Done         ", slot);
-        print_done(turn.session);
+        print_once(rt, b"close, which answers Done         ", slot)?;
+        print_done(rt, turn.session)
     } else {
-        print_once(b"close, which is refused           ", slot);
+        print_once(rt, b"close, which is refused           ", slot)
     }
 }
 
 // Installs the file over what the slot holds: one erase more than it has pages, since the first stores
 // zero in word 0, and a fill for each word.
-fn install(file: &[u8], slot: &mut [u8]) {
+fn install(rt: &impl Print, file: &[u8], slot: &mut [u8]) -> io::Result<()> {
     let begun = begin(slot, file.len());
-    print_once(b"begin                             ", slot);
+    print_once(rt, b"begin                             ", slot)?;
     let erases = slot.len() / 4096 + 1;
     let words = file.len() / 4;
-    let erased = repeat(b"erase ", true, erases, begun.session, file, slot);
-    let filled = repeat(b"fill ", false, words, erased, file, slot);
+    let erased = repeat(rt, b"erase ", true, erases, begun.session, file, slot)?;
+    let filled = repeat(rt, b"fill ", false, words, erased, file, slot)?;
     ask(filled, slot);
-    print_once(b"ask                               ", slot);
-    close_session(filled, slot);
+    print_once(rt, b"ask                               ", slot)?;
+    close_session(rt, filled, slot)
 }
 
 // The old image fills the slot.
-fn rehearse(old: &[u8; 65536], new: &[u8; 1540], slot: &mut [u8; 65536]) {
+fn rehearse(
+    rt: &impl Print,
+    old: &[u8; 65536],
+    new: &[u8; 1540],
+    slot: &mut [u8; 65536],
+) -> io::Result<()> {
     put_bytes(slot, 0, old);
-    print_heading(slot, new);
-    install(new, slot);
-    print_cuts_heading();
-    cut_each_way(old, slot);
-    print_again_heading();
-    install(new, slot);
+    print_heading(rt, slot, new)?;
+    install(rt, new, slot)?;
+    print_cuts_heading(rt)?;
+    cut_each_way(rt, old, slot)?;
+    print_again_heading(rt)?;
+    install(rt, new, slot)
 }
 
-fn main() {
+fn main(rt: HostRuntime) -> io::Result<()> {
     let old = old_image();
     let new = new_image();
     let mut slot = [255u8; 65536];
-    rehearse(&old, &new, &mut slot);
+    rehearse(&rt, &old, &new, &mut slot)
 }
