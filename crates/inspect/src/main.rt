@@ -2,10 +2,12 @@
 // 2 of 3 and yes from the signature chip for both headers, and writes one line.
 //
 // It reads at most 65,536 bytes, on until they are full or the input ends. The check is the proved
-// library's; what is read and written is the C library's word.
+// library's; what is read and written is the C library's word. A read or a write that fails ends the
+// program with an error.
 #![tactic(auto)]
 
-ghost use Rattle.std.specs.Prelude.{◌≤◌, length, IfOk};
+ghost use Rattle.std.specs.Prelude.{◌<◌, ◌≤◌, length, take, IfOk};
+ghost use Rattle.std.specs.Io.KnownBytes.{Consumes, IsAtEnd};
 
 use header::{Inputs, Refusal};
 use image::{Answer, check_file};
@@ -40,14 +42,16 @@ fn inspect(rt: &impl Print, bytes: &[u8]) -> io::Result<()> {
 }
 
 // Reads until the buffer is full or the input ends, and answers how many bytes it put at its start.
-fn read_full(input: &mut impl Read, buffer: &mut [u8]) -> io::Result<usize>
-    ensures { IfOk result (λ n. n ≤ length buffer.new) }
+fn read_full<R: Read>(input: &mut R, buffer: &mut [u8]) -> io::Result<usize>
+    ensures bound { IfOk result (λ n. n ≤ length buffer.new) }
+    ensures bytes { IfOk result (λ n. Consumes (R.remaining input.old) (R.remaining input.new) (take n buffer.new)) }
+    ensures end { IfOk result (λ n. n < length buffer.new → IsAtEnd (R.remaining input.new)) }
 {
     let mut done: usize = 0;
     while done < buffer.len() {
         let n = input.read(&mut buffer[done..])?;
         if n == 0 {
-            break;
+            return Ok(done);
         }
         done += n;
     }
