@@ -70,7 +70,8 @@ fn lines(rt: &impl Print, text: &[u8], image: &mut [u8], b: &mut [u8]) -> io::Re
     Ok(())
 }
 
-// Reads until the buffer is full or the input ends, and answers how many bytes it put at its start.
+// Reads until the buffer is full or the input ends, and answers how many bytes it put at the
+// buffer's start.
 fn read_full<R: Read>(input: &mut R, buffer: &mut [u8]) -> io::Result<usize>
     ensures bound { IfOk result (λ n. n ≤ length buffer.new) }
     ensures bytes { IfOk result (λ n. Consumes (R.remaining input.old) (R.remaining input.new) (take n buffer.new)) }

@@ -100,7 +100,7 @@ fn put(all: &mut [u8; 192], at: usize, digest: [u8; 32])
 // Writes the line of one input, and keeps its digest at its place among the six.
 fn self_test_input(rt: &impl Print, all: &mut [u8; 192], at: usize, length: usize) -> io::Result<()>
     requires at_bound { at + 32 ≤ 192 }
-    requires length_len_bound { length ≤ 1024 }
+    requires length_bound { length ≤ 1024 }
 {
     let digest = sequence_digest(length);
     print_sequence(rt, length, digest)?;
