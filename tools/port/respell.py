@@ -95,6 +95,7 @@ def main():
         of_module[module_of(p, root)] = names
         for n in names:
             table[n] = snake(n)
+    table["tailWrong"] = snake("tailWrong")  # a parameter beside `magic_missing`
     camels = {n: s for n, s in table.items() if "-" not in n}
     changed = 0
     for p in files(root, ".antt", ".rt"):

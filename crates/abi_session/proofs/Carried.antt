@@ -1,8 +1,8 @@
 -- The words carry the record: a record whose numbers are below 2 ^ 32 and whose two words are four bytes each is read back from its words,
 -- and every record that a call gives is such a one. Assumes nothing.
-use mathlib.Core.Path.{◌≡◌, refl, ap, ◌∙◌}
+use mathlib.Core.Path.{◌≡◌, refl, ◌∙◌}
 use mathlib.Core.List.{List, [], ◌∷◌, ◌++◌}
-use mathlib.Core.Bool.{Bool, true, false, not, ◌&&◌}
+use mathlib.Core.Bool.{Bool, true, false, ◌&&◌}
 use Prim.Native.Nat.{ℕ, zero, suc, ◌+◌, ◌-◌, ◌%◌, ◌≤◌, ◌<◌}
 use native.Mathlib.Omega.{arith}
 use native.Mathlib.Nat.{mod-eq_of_lt}
@@ -166,11 +166,11 @@ module _ (w slot : List ℕ) where
     where
       go : (a : Bool) → erasing s n ≡ a → (b : Bool) → untouched s ≡ b → Carries w (erase_plan s slot)
       go true p true q =
-          let f = passed s n (sound s n) (leb (s.pages + 1) (pages_of n)) refl (ap not p) in
+          let f = passed s n (sound s n) (leb (s.pages + 1) (pages_of n)) refl p in
           let back = read_back w (with_zero s) (omega (arith, f.0, counted_most s n f.0)) (first_word w) (held_word w) in
           (rw (p, q) back, rw (p, q) back)
       go true p false q =
-          let f = passed s n (sound s n) (leb (s.pages + 1) (pages_of n)) refl (ap not p) in
+          let f = passed s n (sound s n) (leb (s.pages + 1) (pages_of n)) refl p in
           let more : s.pages + 1 ≤ pages_of n = leb-true (s.pages + 1) (pages_of n) f.1 in
           let back = read_back w (with_page s) (omega (arith, f.0, counted_most s n f.0)) (first_word w) (held_word w) in
           (rw (p, q) back, rw (p, q) back)
@@ -180,7 +180,7 @@ module _ (w slot : List ℕ) where
   bytes_back : (k : ℕ) (held first : List ℕ) (stored : ℕ) → filling s n ≡ true → k ≤ s.file - s.taken → stored ≤ 1 → Word held → Word first
       → session_of (words_over w (with_bytes s k held first stored)) ≡ with_bytes s k held first stored
   bytes_back k held first stored p h o x y =
-      let f = passed s n (sound s n) (eqb s.pages (pages_of n)) refl (ap not p) in
+      let f = passed s n (sound s n) (eqb s.pages (pages_of n)) refl p in
       read_back w (with_bytes s k held first stored) (omega (arith, f.0, counted_most s n f.0)) y x
 
   -- where it takes k bytes, which make the word x
@@ -205,7 +205,7 @@ module _ (w slot : List ℕ) where
   -- a session in another phase, after at most one operation more, is read back
   phase_back : (phase operations : ℕ) → full s n ≡ true → operations ≤ s.operations + 1 → session_of (words_over w (with_phase s phase operations)) ≡ with_phase s phase operations
   phase_back phase operations p h =
-      let f = passed_full s n (full s n) refl (ap not p) in
+      let f = passed_full s n (full s n) refl p in
       read_back w (with_phase s phase operations) (omega (arith, f.0, counted_most s n f.0)) (first_word w) (held_word w)
 
   -- whatever the check answers

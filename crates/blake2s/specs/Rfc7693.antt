@@ -1,7 +1,7 @@
 -- BLAKE2s as RFC 7693 defines it, with no key and a digest of 32 bytes, in the order of the RFC's sections.
 -- Everything is on lists of natural numbers. A byte is below 2 ^ 8 and a word below 2 ^ 32. Sums of words wrap.
 -- Assumes nothing.
-use Rattle.std.specs.Prelude.{ℕ, zero, suc, ◌+◌, ◌-◌, ◌*◌, ◌/◌, ◌%◌, ◌^◌, min, Bool, true, false, List, [], ◌∷◌, ◌++◌, length, set, bit_xor, nat_le, slice_index, slice_set}
+use Rattle.std.specs.Prelude.{ℕ, zero, suc, ◌+◌, ◌-◌, ◌*◌, ◌/◌, ◌%◌, ◌^◌, min, Bool, true, false, List, [], ◌∷◌, ◌++◌, length, set, bit_xor, nat_le, slice_index}
 
 -- what stands at index i
 abbrev pub at : List ℕ → ℕ → ℕ
@@ -59,7 +59,7 @@ G v a b c d x y =
     let v5 : List ℕ = set v4 a (plus (at v4 a + at v4 b) y) in
     let v6 : List ℕ = set v5 d (rotr (bit_xor (at v5 d) (at v5 a)) 8) in
     let v7 : List ℕ = set v6 c (plus (at v6 c) (at v6 d)) in
-    slice_set v7 b (rotr (bit_xor (at v7 b) (at v7 c)) 7)
+    set v7 b (rotr (bit_xor (at v7 b) (at v7 c)) 7)
 
 -- ---- section 3.2: the compression function F
 

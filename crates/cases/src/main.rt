@@ -3,16 +3,13 @@
 // each line must say is worked out by `tools/cases` from the specification alone.
 #![tactic(auto)]
 
-ghost use Rattle.std.specs.Prelude.{◌<◌, ◌≤◌, length, take, IfOk};
-ghost use Rattle.std.specs.Io.KnownBytes.{Consumes, IsAtEnd};
-
 mod installs;
 mod records;
 
 use case_images::{checks, writers};
 use case_rows::{build, rows, show};
+use reading::read_full;
 use std::io;
-use std::io::Read;
 
 // The answer to a row, by what its first word says.
 fn answer(
@@ -68,24 +65,6 @@ fn lines(rt: &impl Print, text: &[u8], image: &mut [u8], b: &mut [u8]) -> io::Re
         i += 1;
     }
     Ok(())
-}
-
-// Reads until the buffer is full or the input ends, and answers how many bytes it put at the
-// buffer's start.
-fn read_full<R: Read>(input: &mut R, buffer: &mut [u8]) -> io::Result<usize>
-    ensures bound { IfOk result (λ n. n ≤ length buffer.new) }
-    ensures bytes { IfOk result (λ n. Consumes (R.remaining input.old) (R.remaining input.new) (take n buffer.new)) }
-    ensures end { IfOk result (λ n. n < length buffer.new → IsAtEnd (R.remaining input.new)) }
-{
-    let mut done: usize = 0;
-    while done < buffer.len() {
-        let n = input.read(&mut buffer[done..])?;
-        if n == 0 {
-            return Ok(done);
-        }
-        done += n;
-    }
-    Ok(done)
 }
 
 // The largest image has 2,097,152 bytes, and a slot of a page more is refused.

@@ -204,18 +204,18 @@ both_signed magic_missing b given h =
     }
 
 -- S21 and S22, of the code behind a header that starts at an offset
-pub record ExtentPasses (tailWrong : Bool) (b : List ℕ) (at : ℕ) : Type 0 where
+pub record ExtentPasses (tail_wrong : Bool) (b : List ℕ) (at : ℕ) : Type 0 where
   pub held : code_end_at b at ≤ length b
-  pub tail : tailWrong ≡ false
+  pub tail : tail_wrong ≡ false
 
-pub extent_passes : (tailWrong : Bool) (b : List ℕ) (at : ℕ) → first_failing (extent_rows_at tailWrong b at) ≡ Pass → ExtentPasses tailWrong b at
+pub extent_passes : (tail_wrong : Bool) (b : List ℕ) (at : ℕ) → first_failing (extent_rows_at tail_wrong b at) ≡ Pass → ExtentPasses tail_wrong b at
 unfolding extent_rows_at
-extent_passes tailWrong b at h21 =
+extent_passes tail_wrong b at h21 =
     record {
       held = ltb-false (length b) (code_end_at b at) (pass_head _ _ _ h21);
       tail = pass_head _ _ _ (pass_tail (code_cut_at b at) _ _ h21);
     }
 
-pub passing_extent : {tailWrong : Bool} {b : List ℕ} {at : ℕ} → ExtentPasses tailWrong b at → first_failing (extent_rows_at tailWrong b at) ≡ Pass
+pub passing_extent : {tail_wrong : Bool} {b : List ℕ} {at : ℕ} → ExtentPasses tail_wrong b at → first_failing (extent_rows_at tail_wrong b at) ≡ Pass
 unfolding extent_rows_at
 passing_extent {b = b} {at} e = sym (passes_here _ _ (le-ltb (length b) (code_end_at b at) e.held) (passes_here _ _ e.tail ends))

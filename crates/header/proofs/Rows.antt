@@ -129,6 +129,6 @@ first_numbered (row true s ∷ rows) r h e = let q : s ≡ r = cc in subst (λ (
 first_numbered (row false s ∷ rows) r h e = first_numbered rows r h.1 e
 
 -- S21 and S22
-pub extent_numbered : (tailWrong : Bool) (b : List ℕ) (at : ℕ) → Numbered (extent_rows_at tailWrong b at)
+pub extent_numbered : (tail_wrong : Bool) (b : List ℕ) (at : ℕ) → Numbered (extent_rows_at tail_wrong b at)
 unfolding extent_rows_at
-extent_numbered tailWrong b at = (omega arith, (omega arith, omega arith))
+extent_numbered tail_wrong b at = (omega arith, (omega arith, omega arith))

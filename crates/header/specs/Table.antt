@@ -76,10 +76,10 @@ header_rows magic_missing b given =
     ∷ step (policy_impossible given.m given.n) 16 0
     ∷ (vendor_shape b ++ (vendor_policy b given ++ (firmware_shape b ++ firmware_policy b given)))
 
--- S21 and S22, of the code behind a header that starts at an offset. S22 fails where tailWrong says so: a file and a slot differ there alone
+-- S21 and S22, of the code behind a header that starts at an offset. S22 fails where tail_wrong says so: a file and a slot differ there alone
 unfoldable pub extent_rows_at : Bool → List ℕ → ℕ → List Row
-extent_rows_at tailWrong b at = step (code_cut_at b at) 2 3 ∷ step tailWrong 13 3 ∷ []
+extent_rows_at tail_wrong b at = step (code_cut_at b at) 2 3 ∷ step tail_wrong 13 3 ∷ []
 
 -- of an image
 abbrev pub extent_rows : Bool → List ℕ → List Row
-extent_rows tailWrong b = extent_rows_at tailWrong b (vendor_len b)
+extent_rows tail_wrong b = extent_rows_at tail_wrong b (vendor_len b)

@@ -64,18 +64,18 @@ image_is i v c x y e f g h =
 
 -- ---- all rows pass
 
-pub record RowsPass (magic_missing tailWrong : Bool) (b : List ℕ) (given : Inputs) : Type 0 where
+pub record RowsPass (magic_missing tail_wrong : Bool) (b : List ℕ) (given : Inputs) : Type 0 where
   pub headers : first_failing (header_rows magic_missing b given) ≡ Pass
-  pub extent : first_failing (extent_rows tailWrong b) ≡ Pass
+  pub extent : first_failing (extent_rows tail_wrong b) ≡ Pass
   pub hashes : first_failing (hash_rows b) ≡ Pass
 
-pub each_group_passes : {magic_missing tailWrong : Bool} {b : List ℕ} {given : Inputs} → first_failing (check_rows magic_missing tailWrong b given) ≡ Pass → RowsPass magic_missing tailWrong b given
+pub each_group_passes : {magic_missing tail_wrong : Bool} {b : List ℕ} {given : Inputs} → first_failing (check_rows magic_missing tail_wrong b given) ≡ Pass → RowsPass magic_missing tail_wrong b given
 unfolding check_rows
-each_group_passes {magic_missing} {tailWrong} {b} {given} h =
+each_group_passes {magic_missing} {tail_wrong} {b} {given} h =
     let l = stage_then (header_rows magic_missing b given) _ h in
-    record { headers = stage_first _ _ h; extent = stage_first _ _ l; hashes = stage_then (extent_rows tailWrong b) _ l }
+    record { headers = stage_first _ _ h; extent = stage_first _ _ l; hashes = stage_then (extent_rows tail_wrong b) _ l }
 
-pub all_groups_pass : {magic_missing tailWrong : Bool} {b : List ℕ} {given : Inputs} → RowsPass magic_missing tailWrong b given → first_failing (check_rows magic_missing tailWrong b given) ≡ Pass
+pub all_groups_pass : {magic_missing tail_wrong : Bool} {b : List ℕ} {given : Inputs} → RowsPass magic_missing tail_wrong b given → first_failing (check_rows magic_missing tail_wrong b given) ≡ Pass
 unfolding check_rows
 all_groups_pass p = sym (stage_passes _ _ (sym p.headers) refl (stage_passes _ _ (sym p.extent) refl (sym p.hashes)))
 
@@ -86,25 +86,25 @@ pub record Sound (b : List ℕ) : Type 0 where
   pub held : image_len b ≤ length b
   pub hashes : hash_table b ≡ hashes_of blake2s_of 16 (first_room (vendor_len b)) (code_of b)
 
-pub sound : {magic_missing tailWrong : Bool} {b : List ℕ} {given : Inputs} → RowsPass magic_missing tailWrong b given → Sound b
-sound {magic_missing} {tailWrong} {b} {given} p =
+pub sound : {magic_missing tail_wrong : Bool} {b : List ℕ} {given : Inputs} → RowsPass magic_missing tail_wrong b given → Sound b
+sound {magic_missing} {tail_wrong} {b} {given} p =
     let h = headers_pass magic_missing b given p.headers in
     record {
       vendor = vendor_shaped b h.vendor;
       firmware = firmware_shaped b h.firmware;
-      held = (extent_passes tailWrong b (vendor_len b) p.extent).held;
+      held = (extent_passes tail_wrong b (vendor_len b) p.extent).held;
       hashes = hashes_right b p.hashes;
     }
 
 -- ---- an answer of all rows
 
 -- a check accepts exactly where all rows pass, and tells the image
-pub accepted_rows : (magic_missing tailWrong : Bool) (b : List ℕ) (given : Inputs) (i : Image) → answer_of (first_failing (check_rows magic_missing tailWrong b given)) (image_of b) ≡ Accepted i
-    → RowsPass magic_missing tailWrong b given
-accepted_rows magic_missing tailWrong b given i h = each_group_passes (passed _ (image_of b) i h)
+pub accepted_rows : (magic_missing tail_wrong : Bool) (b : List ℕ) (given : Inputs) (i : Image) → answer_of (first_failing (check_rows magic_missing tail_wrong b given)) (image_of b) ≡ Accepted i
+    → RowsPass magic_missing tail_wrong b given
+accepted_rows magic_missing tail_wrong b given i h = each_group_passes (passed _ (image_of b) i h)
 
-pub rows_accepted : {magic_missing tailWrong : Bool} {b : List ℕ} {given : Inputs} → RowsPass magic_missing tailWrong b given
-    → answer_of (first_failing (check_rows magic_missing tailWrong b given)) (image_of b) ≡ Accepted (image_of b)
+pub rows_accepted : {magic_missing tail_wrong : Bool} {b : List ℕ} {given : Inputs} → RowsPass magic_missing tail_wrong b given
+    → answer_of (first_failing (check_rows magic_missing tail_wrong b given)) (image_of b) ≡ Accepted (image_of b)
 rows_accepted p = sym (accepted (all_groups_pass p) refl)
 
 -- the check of a file

@@ -11,7 +11,7 @@ use Rattle.image.specs.Answer.{image_of, answer_of}
 
 -- S1 to S23, where S1 and S22 fail as told
 unfoldable pub check_rows : Bool → Bool → List ℕ → Inputs → List Row
-check_rows magic_missing tailWrong b given = header_rows magic_missing b given ++ (extent_rows tailWrong b ++ hash_rows b)
+check_rows magic_missing tail_wrong b given = header_rows magic_missing b given ++ (extent_rows tail_wrong b ++ hash_rows b)
 
 unfoldable pub check_file : List ℕ → Inputs → Answer
 check_file b given = answer_of (first_failing (check_rows (vendor_magic_missing b) (bytes_follow b) b given)) (image_of b)

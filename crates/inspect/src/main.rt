@@ -6,13 +6,10 @@
 // program with an error.
 #![tactic(auto)]
 
-ghost use Rattle.std.specs.Prelude.{◌<◌, ◌≤◌, length, take, IfOk};
-ghost use Rattle.std.specs.Io.KnownBytes.{Consumes, IsAtEnd};
-
 use header::{Inputs, Refusal};
 use image::{Answer, check_file};
+use reading::read_full;
 use std::io;
-use std::io::Read;
 
 fn print_number(rt: &impl Print, label: &[u8], number: u32) -> io::Result<()> {
     rt.write_all(label)?;
@@ -39,24 +36,6 @@ fn inspect(rt: &impl Print, bytes: &[u8]) -> io::Result<()> {
         Answer::Accepted(_) => rt.write_all(b"accepted\n"),
         Answer::Rejected(r) => print_refusal(rt, r),
     }
-}
-
-// Reads until the buffer is full or the input ends, and answers how many bytes it put at the
-// buffer's start.
-fn read_full<R: Read>(input: &mut R, buffer: &mut [u8]) -> io::Result<usize>
-    ensures bound { IfOk result (λ n. n ≤ length buffer.new) }
-    ensures bytes { IfOk result (λ n. Consumes (R.remaining input.old) (R.remaining input.new) (take n buffer.new)) }
-    ensures end { IfOk result (λ n. n < length buffer.new → IsAtEnd (R.remaining input.new)) }
-{
-    let mut done: usize = 0;
-    while done < buffer.len() {
-        let n = input.read(&mut buffer[done..])?;
-        if n == 0 {
-            return Ok(done);
-        }
-        done += n;
-    }
-    Ok(done)
 }
 
 fn main(rt: HostRuntime) -> io::Result<()> {

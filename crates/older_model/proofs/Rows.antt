@@ -28,7 +28,7 @@ use Rattle.older_model.proofs.Hashes.{hashes_used, hashes_unused, hashes_pass}
 
 -- ---- the V2 header and the code
 
-module _ (other tailWrong : Bool) (b : List ℕ) (at : ℕ) (given : OlderInputs) where
+module _ (other tail_wrong : Bool) (b : List ℕ) (at : ℕ) (given : OlderInputs) where
   policy_is : first_failing (v2_policy b at given) ≡ Pass → Timely b at given × SignedByThree given.keys b (at + 0x2E0) given.v2
   unfolding v2_policy
   policy_is h =
@@ -47,17 +47,17 @@ module _ (other tailWrong : Bool) (b : List ℕ) (at : ℕ) (given : OlderInputs
   pub record V2Stands : Type 0 where
     pub image : IsV2 b at given (image_at b 0 at)
     pub own : other ≡ false
-    pub tail : tailWrong ≡ false
+    pub tail : tail_wrong ≡ false
 
-  pub v2_stands : KeySheet given.keys → first_failing (v2_rows other tailWrong b at given) ≡ Pass → V2Stands
+  pub v2_stands : KeySheet given.keys → first_failing (v2_rows other tail_wrong b at given) ≡ Pass → V2Stands
   unfolding v2_rows code_rows
   v2_stands sheet h =
       let shape = stage_first (v2_shape other b at) _ h in
       let later = stage_then (v2_shape other b at) _ h in
       let policy = policy_is (stage_first (v2_policy b at given) _ later) in
       let code = stage_then (v2_policy b at given) _ later in
-      let extent = extent_passes tailWrong b at (stage_first (extent_rows_at tailWrong b at) _ code) in
-      let hashes = stage_then (extent_rows_at tailWrong b at) _ code in
+      let extent = extent_passes tail_wrong b at (stage_first (extent_rows_at tail_wrong b at) _ code) in
+      let hashes = stage_then (extent_rows_at tail_wrong b at) _ code in
       record {
         image =
             record {
@@ -77,7 +77,7 @@ module _ (other tailWrong : Bool) (b : List ℕ) (at : ℕ) (given : OlderInputs
         tail = extent.tail;
       }
 
-  pub v2_rows_pass : (i : Image) → IsV2 b at given i → other ≡ false → tailWrong ≡ false → first_failing (v2_rows other tailWrong b at given) ≡ Pass
+  pub v2_rows_pass : (i : Image) → IsV2 b at given i → other ≡ false → tail_wrong ≡ false → first_failing (v2_rows other tail_wrong b at given) ≡ Pass
   unfolding v2_rows code_rows
   v2_rows_pass i s e f =
       let c = s.codelen in
@@ -106,37 +106,37 @@ module _ (b : List ℕ) (given : OlderInputs) where
 
 -- ---- the two forms
 
-module _ (tailWrong : Bool) (b : List ℕ) (given : OlderInputs) where
-  pub alone_stands : first_failing (alone_rows tailWrong b given) ≡ Pass → V2Stands false tailWrong b 0 given
+module _ (tail_wrong : Bool) (b : List ℕ) (given : OlderInputs) where
+  pub alone_stands : first_failing (alone_rows tail_wrong b given) ≡ Pass → V2Stands false tail_wrong b 0 given
   unfolding alone_rows
-  alone_stands h = v2_stands false tailWrong b 0 given (sheet_is given.keys (pass_head _ _ _ h)) (pass_tail _ _ _ h)
+  alone_stands h = v2_stands false tail_wrong b 0 given (sheet_is given.keys (pass_head _ _ _ h)) (pass_tail _ _ _ h)
 
-  pub alone_passes : (i : Image) → IsV2 b 0 given i → tailWrong ≡ false → first_failing (alone_rows tailWrong b given) ≡ Pass
+  pub alone_passes : (i : Image) → IsV2 b 0 given i → tail_wrong ≡ false → first_failing (alone_rows tail_wrong b given) ≡ Pass
   unfolding alone_rows
-  alone_passes i s f = sym (passes_here _ _ (sheet_passes given.keys s.sheet) (sym (v2_rows_pass false tailWrong b 0 given i s refl f)))
+  alone_passes i s f = sym (passes_here _ _ (sheet_passes given.keys s.sheet) (sym (v2_rows_pass false tail_wrong b 0 given i s refl f)))
 
-  pub pair_stands : first_failing (pair_rows tailWrong b given) ≡ Pass → IsPair b given (image_at b 0 256) × (tailWrong ≡ false)
+  pub pair_stands : first_failing (pair_rows tail_wrong b given) ≡ Pass → IsPair b given (image_at b 0 256) × (tail_wrong ≡ false)
   unfolding pair_rows
   pair_stands h =
       let p = pass_tail _ _ _ h in
       let l = legacy_stands b given (stage_first (legacy_rows b given) _ p) in
-      let s = v2_stands (code_len_other b) tailWrong b 256 given (sheet_is given.keys (pass_head _ _ _ h)) (stage_then (legacy_rows b given) _ p) in
+      let s = v2_stands (code_len_other b) tail_wrong b 256 given (sheet_is given.keys (pass_head _ _ _ h)) (stage_then (legacy_rows b given) _ p) in
       (record { legacy = l.0; legacy_signed = l.1; linked = linked_is b s.own; v2 = s.image }, s.tail)
 
-  pub pair_passes : (i : Image) → IsPair b given i → tailWrong ≡ false → first_failing (pair_rows tailWrong b given) ≡ Pass
+  pub pair_passes : (i : Image) → IsPair b given i → tail_wrong ≡ false → first_failing (pair_rows tail_wrong b given) ≡ Pass
   unfolding pair_rows
   pair_passes i s f =
       sym
       (passes_here _ _ (sheet_passes given.keys s.v2.sheet)
       (stage_passes _ _ (sym (legacy_rows_pass b given s.legacy s.legacy_signed)) refl
-      (sym (v2_rows_pass (code_len_other b) tailWrong b 256 given i s.v2 (linked_passes b s.linked) f))))
+      (sym (v2_rows_pass (code_len_other b) tail_wrong b 256 given i s.v2 (linked_passes b s.linked) f))))
 
 -- ---- every row refuses with a number
 
-code_numbered : (tailWrong : Bool) (b : List ℕ) (at : ℕ) → Numbered (code_rows tailWrong b at)
+code_numbered : (tail_wrong : Bool) (b : List ℕ) (at : ℕ) → Numbered (code_rows tail_wrong b at)
 unfolding code_rows
-code_numbered tailWrong b at =
-    numbered_append (extent_rows_at tailWrong b at) _ (extent_numbered tailWrong b at) (chunks_numbered sha256_of first_room (code_at b at) (hash_table_at b at) 0 16)
+code_numbered tail_wrong b at =
+    numbered_append (extent_rows_at tail_wrong b at) _ (extent_numbered tail_wrong b at) (chunks_numbered sha256_of first_room (code_at b at) (hash_table_at b at) 0 16)
 
 policy_numbered : (b : List ℕ) (at : ℕ) (given : OlderInputs) → Numbered (v2_policy b at given)
 unfolding v2_policy
@@ -146,19 +146,19 @@ shape_numbered : (other : Bool) (b : List ℕ) (at : ℕ) → Numbered (v2_shape
 unfolding v2_shape
 shape_numbered other b at = (omega arith, (omega arith, (omega arith, (omega arith, (omega arith, omega arith)))))
 
-v2_numbered : (other tailWrong : Bool) (b : List ℕ) (at : ℕ) (given : OlderInputs) → Numbered (v2_rows other tailWrong b at given)
+v2_numbered : (other tail_wrong : Bool) (b : List ℕ) (at : ℕ) (given : OlderInputs) → Numbered (v2_rows other tail_wrong b at given)
 unfolding v2_rows
-v2_numbered other tailWrong b at given =
-    numbered_append (v2_shape other b at) _ (shape_numbered other b at) (numbered_append (v2_policy b at given) _ (policy_numbered b at given) (code_numbered tailWrong b at))
+v2_numbered other tail_wrong b at given =
+    numbered_append (v2_shape other b at) _ (shape_numbered other b at) (numbered_append (v2_policy b at given) _ (policy_numbered b at given) (code_numbered tail_wrong b at))
 
 legacy_numbered : (b : List ℕ) (given : OlderInputs) → Numbered (legacy_rows b given)
 unfolding legacy_rows legacy_shape legacy_policy
 legacy_numbered b given = numbered_append (legacy_shape b) (legacy_policy b given) (omega arith, (omega arith, (omega arith, (omega arith, omega arith)))) (omega arith, (omega arith, omega arith))
 
-pub alone_numbered : (tailWrong : Bool) (b : List ℕ) (given : OlderInputs) → Numbered (alone_rows tailWrong b given)
+pub alone_numbered : (tail_wrong : Bool) (b : List ℕ) (given : OlderInputs) → Numbered (alone_rows tail_wrong b given)
 unfolding alone_rows
-alone_numbered tailWrong b given = (omega arith, v2_numbered false tailWrong b 0 given)
+alone_numbered tail_wrong b given = (omega arith, v2_numbered false tail_wrong b 0 given)
 
-pub pair_numbered : (tailWrong : Bool) (b : List ℕ) (given : OlderInputs) → Numbered (pair_rows tailWrong b given)
+pub pair_numbered : (tail_wrong : Bool) (b : List ℕ) (given : OlderInputs) → Numbered (pair_rows tail_wrong b given)
 unfolding pair_rows
-pair_numbered tailWrong b given = (omega arith, numbered_append (legacy_rows b given) _ (legacy_numbered b given) (v2_numbered (code_len_other b) tailWrong b legacy_len given))
+pair_numbered tail_wrong b given = (omega arith, numbered_append (legacy_rows b given) _ (legacy_numbered b given) (v2_numbered (code_len_other b) tail_wrong b legacy_len given))

@@ -50,14 +50,14 @@ v2_policy b at given =
     ∷ step (verdict_missing given.v2) 9 2
     ∷ []
 
--- ---- the code, as S21 to S23 have it. S22 fails where tailWrong says so
+-- ---- the code, as S21 to S23 have it. S22 fails where tail_wrong says so
 
 unfoldable pub code_rows : Bool → List ℕ → ℕ → List Row
-code_rows tailWrong b at = extent_rows_at tailWrong b at ++ chunk_rows sha256_of first_room (code_at b at) (hash_table_at b at) 0 16
+code_rows tail_wrong b at = extent_rows_at tail_wrong b at ++ chunk_rows sha256_of first_room (code_at b at) (hash_table_at b at) 0 16
 
 -- the V2 header and the code behind it
 unfoldable pub v2_rows : Bool → Bool → List ℕ → ℕ → OlderInputs → List Row
-v2_rows other tailWrong b at given = v2_shape other b at ++ (v2_policy b at given ++ code_rows tailWrong b at)
+v2_rows other tail_wrong b at given = v2_shape other b at ++ (v2_policy b at given ++ code_rows tail_wrong b at)
 
 -- the V2 header alone
 abbrev pub v2_headers : Bool → List ℕ → ℕ → OlderInputs → List Row
@@ -67,13 +67,13 @@ v2_headers other b at given = v2_shape other b at ++ v2_policy b at given
 
 -- the V2 header by itself
 unfoldable pub alone_rows : Bool → List ℕ → OlderInputs → List Row
-alone_rows tailWrong b given = step (sheet_impossible given.keys) 16 0 ∷ v2_rows false tailWrong b 0 given
+alone_rows tail_wrong b given = step (sheet_impossible given.keys) 16 0 ∷ v2_rows false tail_wrong b 0 given
 
 -- the pair
 unfoldable pub pair_rows : Bool → List ℕ → OlderInputs → List Row
-pair_rows tailWrong b given =
+pair_rows tail_wrong b given =
     step (sheet_impossible given.keys) 16 0
-    ∷ (legacy_rows b given ++ v2_rows (code_len_other b) tailWrong b legacy_len given)
+    ∷ (legacy_rows b given ++ v2_rows (code_len_other b) tail_wrong b legacy_len given)
 
 -- the headers of each, before the code
 abbrev pub alone_headers : List ℕ → OlderInputs → List Row

@@ -1,13 +1,13 @@
 -- What a session's tests say of its numbers: each conjunction is taken apart once, into a record of facts.
 -- Assumes nothing.
-use mathlib.Core.Path.{◌≡◌, refl}
-use mathlib.Core.Bool.{Bool, true, false, not, ◌&&◌, ◌||◌, and-false, false≢true}
+use mathlib.Core.Path.{◌≡◌, refl, sym, ◌∙◌}
+use mathlib.Core.Bool.{Bool, true, false, ◌&&◌, ◌||◌, and-false, false≢true}
 use mathlib.Core.Logic.{◌⊎◌, inl, inr, ⊎_elim}
 use mathlib.Core.List.{List, [], ◌∷◌}
 use Prim.Native.Nat.{ℕ, ◌+◌, ◌/◌, ◌%◌, ◌≤◌}
 use native.Mathlib.Omega.{arith}
 use lib.Dec.{eqb, leb}
-use borrow.Author.Tests.{eqb-true, leb-true, eq-eqb, le-leb, not-true, not-false}
+use borrow.Author.Tests.{eqb-true, leb-true, eq-eqb, le-leb}
 use Rattle.octets.specs.Rounding.{multiple_of}
 use Rattle.octets.proofs.Laws.{and_left, and_right, or_cases}
 use Rattle.sessions.specs.Record.{slot_len_right, file_len_right, pages_of, words_stored, untouched, counted, sound, full, waiting}
@@ -196,19 +196,19 @@ not_sound s n k e h = rw (e, h) (and-false (leb s.pages (pages_of n)))
 
 -- ---- what a call's test says, which the code makes of the result r of `sound` and a test t of its own
 
-pub passed : (s : Session) (n : ℕ) (r t : Bool) → r ≡ sound s n → not (r && t) ≡ false → Sound s n × (t ≡ true) × ((sound s n && t) ≡ true)
+pub passed : (s : Session) (n : ℕ) (r t : Bool) → r ≡ sound s n → (r && t) ≡ true → Sound s n × (t ≡ true) × ((sound s n && t) ≡ true)
 passed s n r t e p =
-    let q : (sound s n && t) ≡ true = rw (← e) (not-false (r && t) p) in
+    let q : (sound s n && t) ≡ true = rw (← e) p in
     (sound_facts s n (and_left (sound s n) t q), and_right (sound s n) t q, q)
 
-pub barred : (s : Session) (n : ℕ) (r t : Bool) → r ≡ sound s n → not (r && t) ≡ true → (sound s n && t) ≡ false
-barred s n r t e p = rw (← e) (not-true (r && t) p)
+pub barred : (s : Session) (n : ℕ) (r t : Bool) → r ≡ sound s n → (r && t) ≡ false → (sound s n && t) ≡ false
+barred s n r t e p = rw (← e) p
 
 -- all pages are erased and all bytes taken, by the result r of `full`
-pub passed_full : (s : Session) (n : ℕ) (r : Bool) → r ≡ full s n → not r ≡ false → Sound s n × (full s n ≡ true)
+pub passed_full : (s : Session) (n : ℕ) (r : Bool) → r ≡ full s n → r ≡ true → Sound s n × (full s n ≡ true)
 passed_full s n r e p =
-    let q : full s n ≡ true = rw (← e) (not-false r p) in
+    let q : full s n ≡ true = sym e ∙ p in
     (sound_facts s n (and_left (sound s n) (eqb s.pages (pages_of n) && eqb s.taken s.file) q), q)
 
-pub barred_full : (s : Session) (n : ℕ) (r : Bool) → r ≡ full s n → not r ≡ true → full s n ≡ false
-barred_full s n r e p = rw (← e) (not-true r p)
+pub barred_full : (s : Session) (n : ℕ) (r : Bool) → r ≡ full s n → r ≡ false → full s n ≡ false
+barred_full s n r e p = sym e ∙ p

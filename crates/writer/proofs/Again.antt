@@ -226,7 +226,7 @@ module _ (b : List ℕ) (bytes : (i : ℕ) → get_or b i 0 < 256) (magic : star
       }
 
 -- an accepted image, whatever is asked of the bytes behind it
-module _ {tailWrong : Bool} {given : Inputs} (b : List ℕ) (bytes : (i : ℕ) → get_or b i 0 < 256) (p : RowsPass (vendor_magic_missing b) tailWrong b given) where
+module _ {tail_wrong : Bool} {given : Inputs} (b : List ℕ) (bytes : (i : ℕ) → get_or b i 0 < 256) (p : RowsPass (vendor_magic_missing b) tail_wrong b given) where
   own_again : Rewritten (parts b) given (image_of b).v (take ((image_of b).v + 1024 + (image_of b).codelen) b)
   unfolding vendor_magic_missing image_of parts_of
   own_again =

@@ -24,4 +24,6 @@ pub loop-i-preserved : goal.loop-i-preserved
 loop-i-preserved c = (omega arith, simp length-set c.loop-i.invariant.1, rw c.loop-i.invariant.2 (erased_more _ _ (omega arith)))
 
 pub returns : goal.returns
-returns c = let e : c.loop-i.i ≡ 4096 = omega arith in (rw e at c.loop-i.invariant.2) ∙ sym (page_whole _ c.if-page-lt4096.false)
+returns c =
+    let e : c.loop-i.i ≡ 4096 = omega arith in
+    (rw e at c.loop-i.invariant.2) ∙ sym (page_whole _ c.if-page-lt4096.false)

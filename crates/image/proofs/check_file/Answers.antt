@@ -7,4 +7,6 @@ use Rattle.image.proofs.check_file.Goals as goal
 
 pub returns : goal.returns
 unfolding check_file
-returns c = let both = told_too told (search (answered)) in record { value = both.0; told = both.1 }
+returns c =
+    let both = told_too told (search (answered)) in
+    record { value = both.0; told = both.1 }

@@ -6,7 +6,8 @@ use Rattle.octets.proofs.Laws.{byte_rest}
 use Rattle.image.proofs.version_at.Goals as goal
 
 pub returns : goal.returns
-returns c = let s = c.args.b.now in
+returns c =
+    let s = c.args.b.now in
     let at = c.args.at in
     let e0 = byte_rest s at 0 c.rest-v.ensures c.byte_at.ensures in
     let e1 = byte_rest s at 1 c.rest-v.ensures c.byte_at-2.ensures in

@@ -6,4 +6,6 @@ use Rattle.loader.proofs.check_card.Goals as goal
 
 pub returns : goal.returns
 unfolding check_card
-returns c = let both = told_too told c.check_area.ensures in record { value = both.0; told = both.1 }
+returns c =
+    let both = told_too told c.check_area.ensures in
+    record { value = both.0; told = both.1 }

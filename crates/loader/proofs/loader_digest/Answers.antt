@@ -5,4 +5,6 @@ use Rattle.loader.proofs.loader_digest.Goals as goal
 
 pub returns : goal.returns
 unfolding loader_digest
-returns c = let both = tells (cc) in record { value = both.0; told = both.1 }
+returns c =
+    let both = tells (cc) in
+    record { value = both.0; told = both.1 }

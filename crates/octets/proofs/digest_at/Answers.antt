@@ -12,9 +12,11 @@ unfolding bytes_at
 loop-j-init c = (search rules, search rules, refl)
 
 pub loop-j-preserved : goal.loop-j-preserved
-loop-j-preserved c = let x = byte_rest c.args.s.now c.args.at c.loop-j.j c.rest-r.ensures c.byte_at.ensures in
+loop-j-preserved c =
+    let x = byte_rest c.args.s.now c.args.at c.loop-j.j c.rest-r.ensures c.byte_at.ensures in
     (search rules, search rules, byte_more c.loop-j.d _ _ c.loop-j.j (omega arith) c.loop-j.invariant.2 x)
 
 pub returns : goal.returns
-returns c = let e : c.loop-j.j ≡ 32 = omega arith in
+returns c =
+    let e : c.loop-j.j ≡ 32 = omega arith in
     sym (take_all 32 c.loop-j.d (omega arith)) ∙ (rw e at c.loop-j.invariant.2)

@@ -13,4 +13,6 @@ pub loop-j-preserved : goal.loop-j-preserved
 loop-j-preserved c = (search rules, rw c.loop-j.invariant.1 (sym (all_more c.args.x c.args.at c.loop-j.j c.args.s.now (omega arith))))
 
 pub returns : goal.returns
-returns c = let e : c.loop-j.j ≡ 64 = omega arith in rw e at c.loop-j.invariant.1
+returns c =
+    let e : c.loop-j.j ≡ 64 = omega arith in
+    rw e at c.loop-j.invariant.1

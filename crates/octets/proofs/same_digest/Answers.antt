@@ -10,21 +10,24 @@ pub loop-i-init : goal.loop-i-init
 loop-i-init c = (search rules, refl)
 
 pub returns-then-a-i : goal.returns-then-a-i
-returns-then-a-i c = let a = c.args.a in
+returns-then-a-i c =
+    let a = c.args.a in
     let b = c.args.b in
     let la : length a ≡ 32 = search rules in
     let lb : length b ≡ 32 = search rules in
     sym (c.loop-i.invariant.1 ∙ same_differ a b c.loop-i.i (omega arith) (omega arith) c.if-a-i.true)
 
 pub loop-i-preserved : goal.loop-i-preserved
-loop-i-preserved c = let a = c.args.a in
+loop-i-preserved c =
+    let a = c.args.a in
     let b = c.args.b in
     let la : length a ≡ 32 = search rules in
     let lb : length b ≡ 32 = search rules in
     (search rules, c.loop-i.invariant.1 ∙ same_step a b c.loop-i.i (omega arith) (omega arith) c.if-a-i.false)
 
 pub returns : goal.returns
-returns c = let a = c.args.a in
+returns c =
+    let a = c.args.a in
     let b = c.args.b in
     let la : length a ≡ 32 = search rules in
     let lb : length b ≡ 32 = search rules in

@@ -7,4 +7,6 @@ use Rattle.older_model.proofs.check_v2_slot.Goals as goal
 
 pub returns : goal.returns
 unfolding check_v2_slot
-returns c = let both = told_too told (alone_answered _ _ c.alone_headers-headers.ensures c.tail_not_at.ensures c.then_code-outcome.ensures c.answer_at.ensures) in record { value = both.0; told = both.1 }
+returns c =
+    let both = told_too told (alone_answered _ _ c.alone_headers-headers.ensures c.tail_not_at.ensures c.then_code-outcome.ensures c.answer_at.ensures) in
+    record { value = both.0; told = both.1 }

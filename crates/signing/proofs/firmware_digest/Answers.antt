@@ -5,4 +5,6 @@ use Rattle.signing.proofs.firmware_digest.Goals as goal
 
 pub returns : goal.returns
 unfolding firmware_digest
-returns c = let both = tells (rw (← c.vendor_magic_missing.ensures) c.firmware_answer.ensures) in record { value = both.0; told = both.1 }
+returns c =
+    let both = tells (rw (← c.vendor_magic_missing.ensures) c.firmware_answer.ensures) in
+    record { value = both.0; told = both.1 }

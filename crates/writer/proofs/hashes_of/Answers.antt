@@ -18,7 +18,8 @@ pub overflow_add-next : goal.overflow_add-next
 overflow_add-next c = omega (arith, c.room_of.ensures, c.requires, room_most c.args.first c.loop-k.k, start_most c.args.first c.loop-k.k)
 
 pub loop-k-preserved : goal.loop-k-preserved
-loop-k-preserved c = let i = c.loop-k.invariant in
+loop-k-preserved c =
+    let i = c.loop-k.invariant in
     let e : c.loop-k.at + c.room_of.result ≡ chunk_start c.args.first (c.loop-k.k + 1) = ap₂ (λ (x y : ℕ). x + y) i.1 c.room_of.ensures ∙ start_more c.args.first c.loop-k.k in (
       omega arith,
       e,
@@ -29,5 +30,6 @@ loop-k-preserved c = let i = c.loop-k.invariant in
     )
 
 pub returns : goal.returns
-returns c = let e : c.loop-k.k ≡ 16 = omega arith in
+returns c =
+    let e : c.loop-k.k ≡ 16 = omega arith in
     sym (take_all 16 c.loop-k.t (omega arith)) ∙ (rw e at c.loop-k.invariant.3)

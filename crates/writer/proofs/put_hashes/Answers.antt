@@ -20,5 +20,6 @@ loop-i-preserved c = (
 )
 
 pub returns : goal.returns
-returns c = let e : c.loop-i.i ≡ 16 = omega arith in
+returns c =
+    let e : c.loop-i.i ≡ 16 = omega arith in
     (omega arith, rw (e, take_all 16 c.args.table (omega arith)) at c.loop-i.invariant.4)

@@ -11,7 +11,8 @@ use Rattle.writer.proofs.vendor_front.Goals as goal
 
 pub returns : goal.returns
 unfolding vendor_front
-returns c = let z : c.picture_start-start.result - c.put_bytes-d.result ≡ picture_start c.args.f.n (length c.args.string.now) - string_end c.args.f.n (length c.args.string.now) =
+returns c =
+    let z : c.picture_start-start.result - c.put_bytes-d.result ≡ picture_start c.args.f.n (length c.args.string.now) - string_end c.args.f.n (length c.args.string.now) =
     omega (arith, c.requires.1, c.picture_start-start.ensures, c.put_bytes-d.ensures.place, c.put_byte-c.ensures.place, c.put_bytes-b.ensures.place, c.put_bytes-a.ensures.place) in
     rw (c.vendor_head-head.ensures, z) at
     (simp append_assoc at

@@ -43,6 +43,7 @@ pub returns-then-keys-n : goal.returns-then-keys-n
 unfolding vendor_refusals
 returns-then-keys-n c = passes _ _ c.keys_impossible.ensures c.if-keys_impossible.false (fails_here _ _ c.if-keys-n.true c.refuse-then-keys-n.ensures)
 
+-- past the test of 3
 pub size_of-requires : goal.size_of-requires
 size_of-requires c =
     let short : c.picture_start-start.result + c.args.picture + 65 ≤ 65536 = le_trans (size_holds _) (ltb-false 65536 _ (sym c.too_long.ensures ∙ c.if-too_long.false)) in

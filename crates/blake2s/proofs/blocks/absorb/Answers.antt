@@ -8,7 +8,8 @@ pub loop-at-init : goal.loop-at-init
 loop-at-init c = (omega arith, omega arith, absorbed_from _ _ _ _ _)
 
 pub loop-at-preserved-then-count-gt0 : goal.loop-at-preserved-then-count-gt0
-loop-at-preserved-then-count-gt0 c = let k = c.whole_blocks-count in
+loop-at-preserved-then-count-gt0 c =
+    let k = c.whole_blocks-count in
     let f = whole_fits _ _ _ _ k.ensures in (
       omega (arith, f.0),
       omega arith,
@@ -40,7 +41,9 @@ pub overflow_sub-at : goal.overflow_sub-at
 overflow_sub-at c = omega (arith, (whole_fits _ _ _ _ c.whole_blocks-count.ensures).1 c.if-count-gt0.true)
 
 pub absorb_run-now-requires : goal.absorb_run-now-requires
-absorb_run-now-requires c = let f = whole_fits _ _ _ _ c.whole_blocks-count.ensures in (omega (arith, f.1 c.if-count-gt0.true), c.loop-at.invariant.1, omega (arith, f.0))
+absorb_run-now-requires c =
+    let f = whole_fits _ _ _ _ c.whole_blocks-count.ensures in
+    (omega (arith, f.1 c.if-count-gt0.true), c.loop-at.invariant.1, omega (arith, f.0))
 
 pub overflow_mul-at-then-count-gt0 : goal.overflow_mul-at-then-count-gt0
 overflow_mul-at-then-count-gt0 c = omega (arith, (whole_fits _ _ _ _ c.whole_blocks-count.ensures).0)

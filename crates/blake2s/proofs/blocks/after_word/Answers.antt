@@ -4,6 +4,7 @@ use Rattle.blake2s.proofs.Laws.{word_block}
 use Rattle.blake2s.proofs.blocks.after_word.Goals as goal
 
 pub returns : goal.returns
-returns c = let w = c.args.first in
+returns c =
+    let w = c.args.first in
     let l : length w ≡ 4 = search rules in
     (word_block w _ l c.lesser.ensures c.copied-word.ensures.0 c.copied.ensures.1 c.copied.ensures.0, l)

@@ -10,7 +10,8 @@ pub loop-k-preserved : goal.loop-k-preserved
 loop-k-preserved c = (omega arith, c.loop-k.invariant.1, rw (c.loop-k.invariant.2, add-one) (paste-suc c.args.bytes c.args.at c.args.s.now c.loop-k.k 0 (omega arith) (omega arith)))
 
 pub returns : goal.returns
-returns c = let e : c.loop-k.k ≡ c.args.n = omega arith in
+returns c =
+    let e : c.loop-k.k ≡ c.args.n = omega arith in
     (rw e at c.loop-k.invariant.2, c.loop-k.invariant.1)
 
 pub bounds-s-k : goal.bounds-s-k

@@ -3,4 +3,6 @@ use Rattle.std.proofs.Common.{◌≡◌, ◌*◌, ◌/◌, arith}
 use Rattle.blake2s.proofs.blocks.is_last.Goals as goal
 
 pub returns : goal.returns
-returns c = let x : 64 * (c.args.at / 64) ≡ c.args.at = omega arith in rw x
+returns c =
+    let x : 64 * (c.args.at / 64) ≡ c.args.at = omega arith in
+    rw x

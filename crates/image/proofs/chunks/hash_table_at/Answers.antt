@@ -15,5 +15,6 @@ pub loop-k-preserved : goal.loop-k-preserved
 loop-k-preserved c = (search rules, search rules, hash_at_more c.loop-k.t _ _ c.loop-k.k (omega arith) c.loop-k.invariant.2 c.digest_at.ensures)
 
 pub returns : goal.returns
-returns c = let e : c.loop-k.k ≡ 16 = omega arith in
+returns c =
+    let e : c.loop-k.k ≡ 16 = omega arith in
     sym (take_all 16 c.loop-k.t (omega arith)) ∙ (rw e at c.loop-k.invariant.2)

@@ -1,5 +1,4 @@
 -- Four bytes are the whole word; fewer stand in it from got on.
--- four bytes of s in a word of four are the word
 use Prim.Native.Nat.{ℕ, ◌≤◌}
 use mathlib.Core.Path.{◌≡◌, sym, ◌∙◌}
 use mathlib.Core.List.{List, [], ◌∷◌, append-nil}
@@ -11,6 +10,7 @@ use Rattle.octets.specs.Read.{between, bytes_at}
 use Rattle.octets.proofs.Laws.{bytes_between}
 use Rattle.installer.proofs.plans.join_number.Goals as goal
 
+-- four bytes of s in a word of four are the word
 whole : (d s : List ℕ) → length d ≡ 4 → 4 ≤ length s → get_or s 0 0 ∷ get_or s 1 0 ∷ get_or s 2 0 ∷ get_or s 3 0 ∷ [] ≡ paste d 0 s 4
 unfolding bytes_at between
 whole d s e h =
@@ -18,7 +18,8 @@ whole d s e h =
     bytes_between 4 s 0 h ∙ sym (rw (drop_of_length-le d m) (append-nil _))
 
 pub returns-then-k-eq4 : goal.returns-then-k-eq4
-returns-then-k-eq4 c = let n : c.args.k ≡ 4 = c.if-k-eq4.true in
+returns-then-k-eq4 c =
+    let n : c.args.k ≡ 4 = c.if-k-eq4.true in
     let z : c.args.got ≡ 0 = omega arith in
     c.number_of.ensures ∙ rw (n, z) (whole c.args.held c.args.piece.now (search rules) (omega arith))
 

@@ -29,5 +29,6 @@ loop-i-preserved c = (
 )
 
 pub returns : goal.returns
-returns c = let e : c.loop-i.i ≡ c.args.k = omega arith in
+returns c =
+    let e : c.loop-i.i ≡ c.args.k = omega arith in
     rw e at c.loop-i.invariant.2

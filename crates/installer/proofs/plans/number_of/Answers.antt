@@ -11,7 +11,8 @@ use Rattle.octets.proofs.Numbers.{word_back}
 use Rattle.installer.proofs.plans.number_of.Goals as goal
 
 pub returns : goal.returns
-returns c = let w : List ℕ = c.args.w in
+returns c =
+    let w : List ℕ = c.args.w in
     let b0 : Fits w8 (get_or w 0 0) = search rules in
     let b1 : Fits w8 (get_or w 1 0) = search rules in
     let b2 : Fits w8 (get_or w 2 0) = search rules in

@@ -6,12 +6,18 @@ use Rattle.loader.proofs.choice.choose.Goals as goal
 
 pub returns-in-Accepted : goal.returns-in-Accepted
 unfolding choose
-returns-in-Accepted c = let both = told_too told (search (card_chosen)) in record { value = both.0; told = both.1 }
+returns-in-Accepted c =
+    let both = told_too told (search (card_chosen)) in
+    record { value = both.0; told = both.1 }
 
 pub returns-in-Accepted-inside : goal.returns-in-Accepted-inside
 unfolding choose
-returns-in-Accepted-inside c = let both = told_too told (search (internal_chosen)) in record { value = both.0; told = both.1 }
+returns-in-Accepted-inside c =
+    let both = told_too told (search (internal_chosen)) in
+    record { value = both.0; told = both.1 }
 
 pub returns-in-Rejected : goal.returns-in-Rejected
 unfolding choose
-returns-in-Rejected c = let both = told_too told (search (none_chosen)) in record { value = both.0; told = both.1 }
+returns-in-Rejected c =
+    let both = told_too told (search (none_chosen)) in
+    record { value = both.0; told = both.1 }

@@ -32,5 +32,6 @@ pub overflow_add-result : goal.overflow_add-result
 overflow_add-result c = omega arith
 
 pub returns : goal.returns
-returns c = let e : c.loop-i.i ≡ length c.args.s.now = omega arith in
+returns c =
+    let e : c.loop-i.i ≡ length c.args.s.now = omega arith in
     record { room = omega (arith); place = omega arith; is = (rw e at c.loop-i.invariant.2) ∙ splice_paste c.args.at c.args.s.now c.args.out.now }

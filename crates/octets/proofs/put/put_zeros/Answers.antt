@@ -29,5 +29,6 @@ pub overflow_add-result : goal.overflow_add-result
 overflow_add-result c = omega arith
 
 pub returns : goal.returns
-returns c = let e : c.loop-i.i ≡ length (zeros c.args.n) = omega (arith, length_zeros c.args.n) in
+returns c =
+    let e : c.loop-i.i ≡ length (zeros c.args.n) = omega (arith, length_zeros c.args.n) in
     (omega arith, record { room = omega (arith, length_zeros c.args.n); place = omega (arith, length_zeros c.args.n); is = (rw e at c.loop-i.invariant.2) ∙ splice_paste c.args.at (zeros c.args.n) c.args.out.now })

@@ -6,8 +6,12 @@ use Rattle.older_model.proofs.digest.pair_legacy_digest.Goals as goal
 
 pub returns-in-Refused : goal.returns-in-Refused
 unfolding pair_legacy_digest
-returns-in-Refused c = let both = tells (rw (← c.signed_rows-outcome.ensures) (answers_given _ c.in-Refused.is refl)) in record { value = both.0; told = both.1 }
+returns-in-Refused c =
+    let both = tells (rw (← c.signed_rows-outcome.ensures) (answers_given _ c.in-Refused.is refl)) in
+    record { value = both.0; told = both.1 }
 
 pub returns-in-Pass : goal.returns-in-Pass
 unfolding pair_legacy_digest
-returns-in-Pass c = let both = tells (rw (← c.signed_rows-outcome.ensures) (answers_given _ c.in-Pass.is (rw c.signed_digest-digest.ensures))) in record { value = both.0; told = both.1 }
+returns-in-Pass c =
+    let both = tells (rw (← c.signed_rows-outcome.ensures) (answers_given _ c.in-Pass.is (rw c.signed_digest-digest.ensures))) in
+    record { value = both.0; told = both.1 }

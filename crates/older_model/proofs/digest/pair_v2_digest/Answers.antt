@@ -6,4 +6,6 @@ use Rattle.older_model.proofs.digest.pair_v2_digest.Goals as goal
 
 pub returns : goal.returns
 unfolding pair_v2_digest
-returns c = let both = tells (pair_answers_signed _ c.both_shapes-outcome.ensures c.v2_answer.ensures) in record { value = both.0; told = both.1 }
+returns c =
+    let both = tells (pair_answers_signed _ c.both_shapes-outcome.ensures c.v2_answer.ensures) in
+    record { value = both.0; told = both.1 }

@@ -6,4 +6,6 @@ use Rattle.older_model.proofs.digest.v2_digest.Goals as goal
 
 pub returns : goal.returns
 unfolding v2_digest
-returns c = let both = tells (answers_signed _ _ _ _ c.v2_shape-outcome.ensures c.v2_answer.ensures (λ h. h)) in record { value = both.0; told = both.1 }
+returns c =
+    let both = tells (answers_signed _ _ _ _ c.v2_shape-outcome.ensures c.v2_answer.ensures (λ h. h)) in
+    record { value = both.0; told = both.1 }

@@ -10,7 +10,8 @@ pub loop-k-preserved : goal.loop-k-preserved
 loop-k-preserved c = (omega arith, omega arith, absorbed_step _ _ c.loop-k.k _ (omega arith) c.tail_block.ensures c.compress-now.ensures ∙ c.loop-k.invariant.2)
 
 pub returns : goal.returns
-returns c = let f = sym (absorbed_all _ _ c.loop-k.k _ (omega arith)) ∙ c.loop-k.invariant.2 in
+returns c =
+    let f = sym (absorbed_all _ _ c.loop-k.k _ (omega arith)) ∙ c.loop-k.invariant.2 in
     hashed c.args.s.now c.args.n (omega arith) _ (omega arith) c.initial.ensures c.absorb_whole-now.ensures (rw c.block_count-end.ensures at f) c.serialised.ensures
 
 pub absorb_whole-now-requires : goal.absorb_whole-now-requires

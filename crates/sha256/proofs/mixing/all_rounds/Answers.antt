@@ -9,15 +9,17 @@ pub loop-t-init : goal.loop-t-init
 loop-t-init c = (omega arith, omega arith, refl)
 
 pub loop-t-preserved : goal.loop-t-preserved
-loop-t-preserved c = let n : length K ≡ 64 = length_constants in (
-  omega arith,
-  omega arith,
-  next_group _ K _ _ c.loop-t.t (64 - c.loop-t.t) (64 - (c.loop-t.t + 16)) (omega arith) (omega arith) refl refl c.rounds_from-now.ensures.w_value c.rounds_from-now.ensures.v_value
-      ∙ c.loop-t.invariant.2,
-)
+loop-t-preserved c =
+    let n : length K ≡ 64 = length_constants in (
+      omega arith,
+      omega arith,
+      next_group _ K _ _ c.loop-t.t (64 - c.loop-t.t) (64 - (c.loop-t.t + 16)) (omega arith) (omega arith) refl refl c.rounds_from-now.ensures.w_value c.rounds_from-now.ensures.v_value
+          ∙ c.loop-t.invariant.2,
+    )
 
 pub returns : goal.returns
-returns c = let k = c.constants_at-k in
+returns c =
+    let k = c.constants_at-k in
     let a = c.args in
     let n : length K ≡ 64 = length_constants in
     last_group _ K _ c.loop-t.t (omega arith) ∙ c.loop-t.invariant.2 ∙ group (state a.h) K (block a.w) 0 48 (omega arith) refl (rw k.ensures at c.first_rounds-v.ensures)

@@ -17,4 +17,6 @@ returns-then-t-eq32 c = rw c.if-t-eq32.true refl
 
 pub returns : goal.returns
 unfolding K
-returns c = let e : c.args.t ≡ 48 = omega arith in rw e refl
+returns c =
+    let e : c.args.t ≡ 48 = omega arith in
+    rw e refl

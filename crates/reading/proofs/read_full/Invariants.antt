@@ -1,8 +1,8 @@
--- `cases::read_full` ends: each turn reads some bytes of the buffer, or is the last. What the
+-- `reading::read_full` ends: each turn reads some bytes of the buffer, or is the last. What the
 -- buffer's start holds is what the input has lost.
 use Rattle.std.proofs.Common.{◌≡◌, ◌-◌, ◌≤◌, length, take}
 use Rattle.std.specs.Io.KnownBytes.{Consumes}
-use Rattle.cases.proofs.read_full.Given as goal
+use Rattle.reading.proofs.read_full.Given as goal
 
 abbrev pub invariant-loop-done : goal.invariant-loop-done
 invariant-loop-done g l = (length l.buffer ≡ length l.initial.buffer) × (l.done ≤ length l.buffer) × Consumes (g.R.Read.remaining l.initial.input) (g.R.Read.remaining l.input) (take l.done l.buffer)
