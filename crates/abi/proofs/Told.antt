@@ -7,19 +7,14 @@ use native.Mathlib.Omega.{arith}
 use lib.ListN.{length, get_or, take, drop, length-take}
 use Rattle.octets.specs.Read.{between}
 use Rattle.code_header.specs.Layout.{code_end_at}
-use Rattle.header.specs.Outcome as outcome
-use Rattle.header.specs.declared.Outcome.{Outcome}
-use Rattle.header.specs.declared.Outcome.TheVariants.{Pass, Refused}
-use Rattle.image.specs.Answer.{number_of}
-use Rattle.image.specs.declared.Answer.{Answer}
-use Rattle.image.specs.declared.Answer.TheVariants.{Accepted, Rejected}
-use Rattle.loader.specs.Choice as choice
-use Rattle.loader.specs.declared.choice.Choice.{Choice}
-use Rattle.loader.specs.declared.choice.Choice.TheVariants.{Card, Internal, Neither}
-use Rattle.loader.specs.Choice.{loader_of, part_of}
+use Rattle.std.specs.Prelude.{Result, Ok, Err}
+use Rattle.header.specs.Outcome.{number_of}
+use Rattle.header.specs.declared.Refusal.{Refusal}
+use Rattle.loader.specs.declared.choice.Area.TheVariants.{Card, Internal}
+use Rattle.loader.specs.Choice.{Choice, loader_of, part_of}
 use Rattle.abi.specs.Inputs.{inputs_of}
-use Rattle.abi.specs.Answers.{answer_words, told_words, outcome_words}
-use Rattle.abi.specs.Loaders.{area_inputs_of, choice_words, loader_words}
+use Rattle.abi.specs.Answers.{answer_words, told_words}
+use Rattle.abi.specs.Loaders.{area_inputs_of, loader_words}
 use Rattle.abi.specs.Theorems.{area_bytes, WordsTellTheAnswer, WordsTellTheLoader}
 
 -- as many bytes from the start as the start has
@@ -35,9 +30,9 @@ loader_found b = start_found (code_end_at b 0 - 0) b
 placed : (c : Choice) (card internal : List ℕ)
     → take (get_or (loader_words c card internal) 2 0) (drop (get_or (loader_words c card internal) 1 0) (area_bytes c card internal)) ≡ part_of c card internal
 unfolding loader_words
-placed Card card internal = loader_found card
-placed Internal card internal = loader_found internal
-placed (Neither r) card internal = refl
+placed (Ok Card) card internal = loader_found card
+placed (Ok Internal) card internal = loader_found internal
+placed (Err r) card internal = refl
 
 loader_within : (b : List ℕ) → length (loader_of b) ≤ length b
 unfolding loader_of between
@@ -45,14 +40,14 @@ loader_within b = let l = length-take (code_end_at b 0 - 0) b in omega arith
 
 held : (c : Choice) (card internal : List ℕ) → get_or (loader_words c card internal) 1 0 + get_or (loader_words c card internal) 2 0 ≤ length (area_bytes c card internal)
 unfolding loader_words
-held Card card internal = let w = loader_within card in omega arith
-held Internal card internal = let w = loader_within internal in omega arith
-held (Neither r) card internal = omega arith
+held (Ok Card) card internal = let w = loader_within card in omega arith
+held (Ok Internal) card internal = let w = loader_within internal in omega arith
+held (Err r) card internal = omega arith
 
-choice_number : (c : Choice) → choice.number_of c ≡ get_or (choice_words c) 0 0
-choice_number Card = refl
-choice_number Internal = refl
-choice_number (Neither r) = refl
+-- the number of any answer is its first word
+first_word : {A : Type 0} (a : Result A Refusal) → number_of a ≡ get_or (answer_words a) 0 0
+first_word (Ok a) = refl
+first_word (Err r) = refl
 
 pub words_tell_the_loader : WordsTellTheLoader
 unfolding area_inputs_of loader_words
@@ -65,7 +60,7 @@ words_tell_the_loader =
       internal_verdict = λ w. refl;
       chosen = (refl, refl);
       refused = λ r. refl;
-      number = choice_number;
+      number = first_word;
       card = λ card internal. refl;
       internal = λ card internal. refl;
       neither = λ r card internal. refl;
@@ -74,14 +69,6 @@ words_tell_the_loader =
     }
 
 -- ---- a check
-
-answer_number : (a : Answer) → number_of a ≡ get_or (answer_words a) 0 0
-answer_number (Accepted i) = refl
-answer_number (Rejected r) = refl
-
-outcome_number : (o : Outcome) → outcome.number_of o ≡ get_or (outcome_words o) 0 0
-outcome_number Pass = refl
-outcome_number (Refused r) = refl
 
 pub words_tell_the_answer : WordsTellTheAnswer
 unfolding inputs_of told_words
@@ -94,12 +81,12 @@ words_tell_the_answer =
       firmware = λ w. refl;
       accepted = λ i. refl;
       rejected = λ r. refl;
-      number = answer_number;
-      passed = refl;
+      number = first_word;
+      passed = λ d. refl;
       refused = λ r. refl;
-      outcome_number = outcome_number;
+      question_number = first_word;
       digest = λ d old. refl;
-      digest_kept = λ r d old. refl;
+      digest_kept = λ r old. refl;
       told = λ i old. refl;
       kept = λ r old. refl;
     }

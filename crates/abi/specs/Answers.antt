@@ -1,20 +1,20 @@
 -- How the exported calls tell an answer: as the three words number, part and chunk. And what they tell beside it, which a refusal leaves as it was.
 -- Assumes nothing.
-use Rattle.std.specs.Prelude.{ℕ, ◌+◌, ◌*◌, Bool, cond, List, [], ◌∷◌}
-use Rattle.header.specs.Outcome as outcome
-use Rattle.header.specs.declared.Outcome.{Outcome}
-use Rattle.header.specs.declared.Outcome.TheVariants.{Pass, Refused}
+use Rattle.std.specs.Prelude.{ℕ, ◌+◌, ◌*◌, Bool, cond, List, [], ◌∷◌, Result, Ok, Err}
+use Rattle.header.specs.Outcome.{number_of, where_of}
+use Rattle.header.specs.declared.Refusal.{Refusal}
 use Rattle.header.specs.declared.trust.Trust.{Trust}
-use Rattle.image.specs.Answer.{number_of, where_of}
+use Rattle.image.specs.Answer.{Answer}
 use Rattle.image.specs.declared.Version.{Version}
 use Rattle.image.specs.declared.Image.{Image}
-use Rattle.image.specs.declared.Answer.{Answer}
-use Rattle.image.specs.declared.Answer.TheVariants.{Accepted, Rejected}
+use Rattle.signing.specs.Digests.{Digest}
+
+-- ---- any answer that is a refusal or something else
+
+abbrev pub answer_words : {A : Type 0} → Result A Refusal → List ℕ
+answer_words a = number_of a ∷ where_of a
 
 -- ---- a check's answer
-
-abbrev pub answer_words : Answer → List ℕ
-answer_words a = number_of a ∷ where_of a
 
 -- a version as a word, the major number in its least byte
 abbrev pub version_word : Version → ℕ
@@ -25,17 +25,14 @@ unfoldable pub told_words : Image → List ℕ
 told_words i = i.v ∷ i.codelen ∷ version_word i.version ∷ version_word i.fix ∷ []
 
 abbrev pub image_words : Answer → List ℕ → List ℕ
-image_words (Accepted i) old = told_words i
-image_words (Rejected r) old = old
+image_words (Ok i) old = told_words i
+image_words (Err r) old = old
 
 -- ---- a digest question's answer
 
-abbrev pub outcome_words : Outcome → List ℕ
-outcome_words o = outcome.number_of o ∷ outcome.where_of o
-
-abbrev pub digest_bytes : Outcome → List ℕ → List ℕ → List ℕ
-digest_bytes Pass digest old = digest
-digest_bytes (Refused r) digest old = old
+abbrev pub digest_bytes : Digest → List ℕ → List ℕ
+digest_bytes (Ok digest) old = digest
+digest_bytes (Err r) old = old
 
 -- ---- the vendor's trust
 

@@ -1,11 +1,10 @@
 -- How the exported writers take the numbers of a header, as words, and how they tell their answer.
 -- Assumes nothing.
-use Rattle.std.specs.Prelude.{ℕ, ◌/◌, ◌%◌, min, Bool, ◌&&◌, List, [], ◌∷◌, leb, get_or}
+use Rattle.std.specs.Prelude.{ℕ, ◌/◌, ◌%◌, min, Bool, ◌&&◌, List, [], ◌∷◌, leb, get_or, Ok, Err}
 use Rattle.image.specs.declared.Version.{Version}
 use Rattle.writer.specs.declared.Vendor.{Vendor}
 use Rattle.writer.specs.declared.Firmware.{Firmware}
-use Rattle.writer.specs.declared.Written.{Written}
-use Rattle.writer.specs.declared.Written.TheVariants.{Header, Not}
+use Rattle.writer.specs.Writers.{Written}
 
 -- ---- the vendor header: expiry, major, minor, m, n, vtrust and sigmask
 
@@ -44,5 +43,5 @@ firmware_of w =
 
 -- the header's length; after a refusal the word stays as it was
 abbrev pub written_word : Written → List ℕ → List ℕ
-written_word (Header len) old = len % 4294967296 ∷ []
-written_word (Not number) old = old
+written_word (Ok len) old = len % 4294967296 ∷ []
+written_word (Err number) old = old

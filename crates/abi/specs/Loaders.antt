@@ -2,8 +2,8 @@
 -- Assumes nothing.
 use Rattle.std.specs.Prelude.{ℕ, List, [], ◌∷◌, eqb, length, get_or}
 use Rattle.loader.specs.declared.AreaInputs.{AreaInputs}
-use Rattle.loader.specs.declared.choice.Choice.{Choice}
-use Rattle.loader.specs.Choice.{number_of, where_of, area_of, part_of}
+use Rattle.header.specs.Outcome.{number_of, where_of}
+use Rattle.loader.specs.Choice.{Choice, area_of, part_of}
 
 -- the time, m and n of the key policy, and the verdicts on the card's loader and on the internal one. A verdict is yes where its word is 1
 unfoldable pub area_inputs_of : List ℕ → AreaInputs

@@ -3,24 +3,19 @@
 -- What a check and a choice are given, and what they tell, stands in its own word; and the place that is told for a loader, and for the code of an
 -- image of the older model, holds it.
 -- Assumes nothing.
-use Rattle.std.specs.Prelude.{ℕ, ◌+◌, ◌≤◌, ◌<◌, ◌≡◌, true, List, [], ◌∷◌, eqb, length, get_or, take, drop}
+use Rattle.std.specs.Prelude.{ℕ, ◌+◌, ◌≤◌, ◌<◌, ◌≡◌, true, List, [], ◌∷◌, eqb, length, get_or, take, drop, Ok, Err}
 use Rattle.header.specs.Steps.{keys_impossible}
 use Rattle.image.specs.declared.Version.{Version}
-use Rattle.header.specs.Outcome as outcome
+use Rattle.header.specs.Outcome.{number_of}
 use Rattle.header.specs.declared.Refusal.{Refusal}
-use Rattle.header.specs.declared.Outcome.{Outcome}
-use Rattle.header.specs.declared.Outcome.TheVariants.{Pass, Refused}
-use Rattle.image.specs.Answer.{number_of}
+use Rattle.image.specs.Answer.{Answer}
 use Rattle.image.specs.Chunks.{code_at}
 use Rattle.image.specs.declared.Image.{Image}
-use Rattle.image.specs.declared.Answer.{Answer}
-use Rattle.image.specs.declared.Answer.TheVariants.{Accepted, Rejected}
-use Rattle.loader.specs.declared.choice.Choice.{Choice}
-use Rattle.loader.specs.declared.choice.Choice.TheVariants.{Card, Internal, Neither}
-use Rattle.loader.specs.Choice as choice
-use Rattle.loader.specs.Choice.{part_of}
+use Rattle.signing.specs.Digests.{Digest}
+use Rattle.loader.specs.declared.choice.Area.TheVariants.{Card, Internal}
+use Rattle.loader.specs.Choice.{Choice, part_of}
 use Rattle.abi.specs.Inputs.{inputs_of}
-use Rattle.abi.specs.Answers.{answer_words, version_word, image_words, outcome_words, digest_bytes}
+use Rattle.abi.specs.Answers.{answer_words, version_word, image_words, digest_bytes}
 use Rattle.abi.specs.Headers.{vendor_fits, vendor_of, firmware_fits, version_of, firmware_of}
 use Rattle.abi.specs.Loaders.{area_inputs_of, choice_words, loader_words}
 use Rattle.abi.specs.Older.{older_inputs_of, code_words}
@@ -54,27 +49,27 @@ pub record WordsTellTheAnswer : Type 0 where
   pub n : (w : List ℕ) → (inputs_of w).n ≡ get_or w 2 0
   pub vendor : (w : List ℕ) → (inputs_of w).vendor ≡ eqb (get_or w 3 0) 1
   pub firmware : (w : List ℕ) → (inputs_of w).firmware ≡ eqb (get_or w 4 0) 1
-  -- number, part and chunk, and the number that comes back
-  pub accepted : (i : Image) → answer_words (Accepted i) ≡ 0 ∷ 0 ∷ 0 ∷ []
-  pub rejected : (r : Refusal) → answer_words (Rejected r) ≡ r.number ∷ r.part ∷ r.chunk ∷ []
+  -- number, part and chunk, and the number that comes back, of a check and of a digest question
+  pub accepted : (i : Image) → answer_words (Ok i) ≡ 0 ∷ 0 ∷ 0 ∷ []
+  pub rejected : (r : Refusal) → answer_words {A = Image} (Err r) ≡ r.number ∷ r.part ∷ r.chunk ∷ []
   pub number : (a : Answer) → number_of a ≡ get_or (answer_words a) 0 0
-  pub passed : outcome_words Pass ≡ 0 ∷ 0 ∷ 0 ∷ []
-  pub refused : (r : Refusal) → outcome_words (Refused r) ≡ r.number ∷ r.part ∷ r.chunk ∷ []
-  pub outcome_number : (o : Outcome) → outcome.number_of o ≡ get_or (outcome_words o) 0 0
+  pub passed : (d : List ℕ) → answer_words (Ok d) ≡ 0 ∷ 0 ∷ 0 ∷ []
+  pub refused : (r : Refusal) → answer_words {A = List ℕ} (Err r) ≡ r.number ∷ r.part ∷ r.chunk ∷ []
+  pub question_number : (d : Digest) → number_of d ≡ get_or (answer_words d) 0 0
   -- a digest where the question is answered, and what a refusal leaves
-  pub digest : (d old : List ℕ) → digest_bytes Pass d old ≡ d
-  pub digest_kept : (r : Refusal) (d old : List ℕ) → digest_bytes (Refused r) d old ≡ old
+  pub digest : (d old : List ℕ) → digest_bytes (Ok d) old ≡ d
+  pub digest_kept : (r : Refusal) (old : List ℕ) → digest_bytes (Err r) old ≡ old
   -- what an acceptance tells, and a refusal leaves
-  pub told : (i : Image) (old : List ℕ) → image_words (Accepted i) old ≡ i.v ∷ i.codelen ∷ version_word i.version ∷ version_word i.fix ∷ []
-  pub kept : (r : Refusal) (old : List ℕ) → image_words (Rejected r) old ≡ old
+  pub told : (i : Image) (old : List ℕ) → image_words (Ok i) old ≡ i.v ∷ i.codelen ∷ version_word i.version ∷ version_word i.fix ∷ []
+  pub kept : (r : Refusal) (old : List ℕ) → image_words (Err r) old ≡ old
 
 -- ---- the loader to run
 
 -- the bytes of the area that is chosen
 abbrev pub area_bytes : Choice → List ℕ → List ℕ → List ℕ
-area_bytes Card card internal = card
-area_bytes Internal card internal = internal
-area_bytes (Neither r) card internal = []
+area_bytes (Ok Card) card internal = card
+area_bytes (Ok Internal) card internal = internal
+area_bytes (Err r) card internal = []
 
 pub record WordsTellTheLoader : Type 0 where
   -- each input is read from its own word, and of a verdict 1 alone is yes
@@ -84,13 +79,13 @@ pub record WordsTellTheLoader : Type 0 where
   pub card_verdict : (w : List ℕ) → (area_inputs_of w).card ≡ eqb (get_or w 3 0) 1
   pub internal_verdict : (w : List ℕ) → (area_inputs_of w).internal ≡ eqb (get_or w 4 0) 1
   -- number, part and chunk, and the number that comes back
-  pub chosen : (choice_words Card ≡ 0 ∷ 0 ∷ 0 ∷ []) × (choice_words Internal ≡ 0 ∷ 0 ∷ 0 ∷ [])
-  pub refused : (r : Refusal) → choice_words (Neither r) ≡ r.number ∷ r.part ∷ r.chunk ∷ []
-  pub number : (c : Choice) → choice.number_of c ≡ get_or (choice_words c) 0 0
+  pub chosen : (choice_words (Ok Card) ≡ 0 ∷ 0 ∷ 0 ∷ []) × (choice_words (Ok Internal) ≡ 0 ∷ 0 ∷ 0 ∷ [])
+  pub refused : (r : Refusal) → choice_words (Err r) ≡ r.number ∷ r.part ∷ r.chunk ∷ []
+  pub number : (c : Choice) → number_of c ≡ get_or (choice_words c) 0 0
   -- the area, and the place, which holds the loader and does not reach past the area
-  pub card : (card internal : List ℕ) → get_or (loader_words Card card internal) 0 0 ≡ 1
-  pub internal : (card internal : List ℕ) → get_or (loader_words Internal card internal) 0 0 ≡ 2
-  pub neither : (r : Refusal) (card internal : List ℕ) → loader_words (Neither r) card internal ≡ 0 ∷ 0 ∷ 0 ∷ []
+  pub card : (card internal : List ℕ) → get_or (loader_words (Ok Card) card internal) 0 0 ≡ 1
+  pub internal : (card internal : List ℕ) → get_or (loader_words (Ok Internal) card internal) 0 0 ≡ 2
+  pub neither : (r : Refusal) (card internal : List ℕ) → loader_words (Err r) card internal ≡ 0 ∷ 0 ∷ 0 ∷ []
   pub bytes : (c : Choice) (card internal : List ℕ)
       → take (get_or (loader_words c card internal) 2 0) (drop (get_or (loader_words c card internal) 1 0) (area_bytes c card internal)) ≡ part_of c card internal
   pub within : (c : Choice) (card internal : List ℕ) → get_or (loader_words c card internal) 1 0 + get_or (loader_words c card internal) 2 0 ≤ length (area_bytes c card internal)

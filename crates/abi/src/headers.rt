@@ -3,12 +3,12 @@ ghost use Rattle.std.specs.Prelude.{◌≡◌};
 ghost use Rattle.writer.specs.Writers.{number_of};
 ghost use Rattle.abi.specs.Headers.{vendor_fits, vendor_of, firmware_fits, version_of, firmware_of, written_word};
 
-use crate::number::{at_most_byte, count, low16};
+use crate::number::{at_most_byte, count, low8, low16};
 use image::Version;
-use octets::put::{byte0, byte1, byte2, byte3};
 use writer::{Firmware, Vendor, Written};
 
 // Whether the numbers of a vendor header fit their fields.
+#[tactic(auto, unfolding(crate::specs::Headers::vendor_fits))]
 pub fn vendor_fits(w: [u32; 7]) -> bool
     ensures { result ≡ vendor_fits w }
 {
@@ -16,21 +16,23 @@ pub fn vendor_fits(w: [u32; 7]) -> bool
 }
 
 // The numbers of a vendor header. An m or n above 255 is read as 255, which no header takes either.
+#[tactic(auto, unfolding(crate::specs::Headers::vendor_of))]
 pub fn vendor_of(w: [u32; 7]) -> Vendor
     ensures { result ≡ vendor_of w }
 {
     Vendor {
         expiry: w[0],
-        major: byte0(w[1]),
-        minor: byte0(w[2]),
+        major: low8(w[1]),
+        minor: low8(w[2]),
         m: at_most_byte(w[3]),
         n: at_most_byte(w[4]),
         trust: low16(w[5]),
-        mask: byte0(w[6]),
+        mask: low8(w[6]),
     }
 }
 
 // Whether the numbers of a firmware header fit their fields.
+#[tactic(auto, unfolding(crate::specs::Headers::firmware_fits))]
 pub fn firmware_fits(w: [u32; 5]) -> bool
     ensures { result ≡ firmware_fits w }
 {
@@ -40,15 +42,17 @@ pub fn firmware_fits(w: [u32; 5]) -> bool
 fn version_of(x: u32) -> Version
     ensures { result ≡ version_of x }
 {
+    let [major, minor, patch, build] = x.to_le_bytes();
     Version {
-        major: byte0(x),
-        minor: byte1(x),
-        patch: byte2(x),
-        build: byte3(x),
+        major,
+        minor,
+        patch,
+        build,
     }
 }
 
 // The numbers of a firmware header, but for v, which is the first word.
+#[tactic(auto, unfolding(crate::specs::Headers::firmware_of))]
 pub fn firmware_of(w: [u32; 5]) -> Firmware
     ensures { result ≡ firmware_of w }
 {
@@ -56,7 +60,7 @@ pub fn firmware_of(w: [u32; 5]) -> Firmware
         expiry: w[1],
         version: version_of(w[2]),
         fix: version_of(w[3]),
-        mask: byte0(w[4]),
+        mask: low8(w[4]),
     }
 }
 
@@ -64,8 +68,8 @@ fn number_of(answer: Written) -> u32
     ensures { result ≡ number_of answer }
 {
     match answer {
-        Written::Header(_) => 0,
-        Written::Not(number) => number,
+        Ok(_) => 0,
+        Err(number) => number,
     }
 }
 
@@ -73,8 +77,8 @@ fn written_word(answer: Written, old: [u32; 1]) -> [u32; 1]
     ensures { result ≡ written_word answer old }
 {
     match answer {
-        Written::Header(len) => count(len),
-        Written::Not(_) => old,
+        Ok(len) => count(len),
+        Err(_) => old,
     }
 }
 
@@ -84,8 +88,7 @@ pub fn tell(answer: Written, written: &mut [u32; 1]) -> u32
     ensures value { result ≡ number_of answer }
     ensures written_after { written.new ≡ written_word answer written.old }
 {
-    let old = *written;
-    let word = written_word(answer, old);
+    let word = written_word(answer, *written);
     *written = word;
     number_of(answer)
 }

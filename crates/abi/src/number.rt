@@ -1,23 +1,5 @@
 // Small conversions of one number.
 ghost use Rattle.std.specs.Prelude.{◌≡◌, [], ◌∷◌, ◌%◌, min};
-ghost use Rattle.octets.specs.Put.{le32};
-ghost use Rattle.abi.specs.Answers.{flag};
-
-use octets::put::{byte0, byte1, byte2, byte3};
-
-// A byte as a word.
-pub fn wide(x: u8) -> u32
-    ensures { result ≡ x }
-{
-    x as u32
-}
-
-// A word as a number.
-pub fn whole(w: u32) -> usize
-    ensures { result ≡ w }
-{
-    w as usize
-}
 
 // The low 32 bits of a number.
 pub fn low(n: usize) -> u32
@@ -33,6 +15,13 @@ pub fn count(k: usize) -> [u32; 1]
     [low(k)]
 }
 
+// The low 8 bits of a word.
+pub fn low8(w: u32) -> u8
+    ensures { result ≡ w % 256 }
+{
+    (w % 256) as u8
+}
+
 // The low 16 bits of a word.
 pub fn low16(w: u32) -> u16
     ensures { result ≡ w % 65536 }
@@ -44,19 +33,5 @@ pub fn low16(w: u32) -> u16
 pub fn at_most_byte(w: u32) -> u8
     ensures { result ≡ min w 255 }
 {
-    if w < 255 { w as u8 } else { 255 }
-}
-
-// 1 for yes, and 0 for no.
-pub fn flag(x: bool) -> u32
-    ensures { result ≡ flag x }
-{
-    if x { 1 } else { 0 }
-}
-
-// The four bytes of a word, the least first.
-pub fn bytes_of(w: u32) -> [u8; 4]
-    ensures { result ≡ le32 w }
-{
-    [byte0(w), byte1(w), byte2(w), byte3(w)]
+    w.min(255) as u8
 }

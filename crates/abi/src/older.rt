@@ -3,6 +3,7 @@ ghost use Rattle.std.specs.Prelude.{◌≡◌};
 ghost use Rattle.abi.specs.Older.{verdicts_of, older_inputs_of, code_words};
 
 use crate::places::placed;
+use code_header::CodeHeader;
 use image::areas::code_span_at;
 use older_model::{OlderInputs, Verdicts};
 
@@ -19,6 +20,7 @@ fn verdicts_of(one: u32, two: u32, three: u32) -> Verdicts
 
 // The time, the number of keys in the key sheet, and the verdicts on the legacy header and on the V2
 // header.
+#[tactic(auto, unfolding(crate::specs::Older::older_inputs_of))]
 pub fn older_inputs_of(w: [u32; 8]) -> OlderInputs
     ensures { result ≡ older_inputs_of w }
 {
@@ -40,5 +42,5 @@ pub fn code_words(bytes: &[u8], at: u32, number: u32) -> [usize; 2]
     if number != 0 {
         return [0; 2];
     }
-    placed(bytes.len(), code_span_at(bytes, at))
+    placed(bytes.len(), code_span_at(CodeHeader { bytes, at }))
 }

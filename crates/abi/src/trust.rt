@@ -2,7 +2,6 @@
 ghost use Rattle.std.specs.Prelude.{◌≡◌};
 ghost use Rattle.abi.specs.Answers.{trust_words};
 
-use crate::number::flag;
 use header::trust::Trust;
 
 // The seconds, and 1 for each feature that is active.
@@ -11,9 +10,9 @@ pub fn trust_words(t: Trust) -> [u32; 5]
 {
     [
         t.seconds,
-        flag(t.red),
-        flag(t.click),
-        flag(t.string),
-        flag(t.secret),
+        u32::from(t.red),
+        u32::from(t.click),
+        u32::from(t.string),
+        u32::from(t.secret),
     ]
 }

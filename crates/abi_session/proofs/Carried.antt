@@ -17,8 +17,8 @@ use Rattle.octets.proofs.Laws.{and_right}
 use Rattle.octets.proofs.Numbers.{word_back}
 use Rattle.flash.specs.Flash.{starts_erased}
 use Rattle.image.specs.Check.{check_file}
-use Rattle.image.specs.declared.Answer.{Answer}
-use Rattle.image.specs.declared.Answer.TheVariants.{Accepted, Rejected}
+use Rattle.std.specs.Prelude.{Ok, Err}
+use Rattle.image.specs.Answer.{Answer}
 use Rattle.sessions.specs.Record.{untouched, with_zero, over, live, accepted, slot_len_right, file_len_right, pages_of, sound, erasing, filling, full, waiting, new_record, with_page, with_bytes, with_phase}
 use Rattle.sessions.specs.Calls.{begin_of, erase_plan, taken_by, joined, word_at, in_first_word, filled, file_in, close_by, confirm_of, turn_of}
 use Rattle.sessions.specs.declared.Session.{Session}
@@ -213,9 +213,9 @@ module _ (w slot : List ℕ) where
   close_carried answer = go answer (full s n) refl (starts_erased slot) refl
     where
       go : (answer : Answer) (a : Bool) → full s n ≡ a → (b : Bool) → starts_erased slot ≡ b → Carries w (close_by s answer slot)
-      go (Accepted i) true p true q =
+      go (Ok i) true p true q =
           (rw (p, q) (phase_back accepted (s.operations + 1) p (omega arith)), rw (p, q) (phase_back over (s.operations + 1) p (omega arith)))
-      go (Rejected r) true p true q =
+      go (Err r) true p true q =
           let back = phase_back over s.operations p (omega arith) in
           (rw (p, q) back, rw (p, q) back)
       go answer true p false q = (rw (p, q), rw (p, q))

@@ -1,7 +1,7 @@
 -- How the exported calls of the installer tell an answer, as words: number, part and chunk; the bytes taken; the operation; both digests, and what
 -- the chip needs beside them.
 -- Assumes nothing.
-use Rattle.std.specs.Prelude.{ℕ, ◌*◌, ◌%◌, List, [], ◌∷◌, ◌++◌}
+use Rattle.std.specs.Prelude.{ℕ, ◌*◌, ◌%◌, List, [], ◌∷◌, ◌++◌, replicate}
 use Rattle.octets.specs.Read.{u32_at}
 use Rattle.flash.specs.Operation.{bytes_of}
 use Rattle.flash.specs.declared.Operation.{Operation}
@@ -11,7 +11,7 @@ use Rattle.sessions.specs.declared.Asked.{Asked}
 use Rattle.sessions.specs.declared.Signatures.{Signatures}
 use Rattle.sessions.specs.declared.Reply.{Reply}
 use Rattle.sessions.specs.declared.Reply.TheVariants.{Begun, Erased, Took, Accepted, Done, Refused, Rejected}
-use Rattle.abi.specs.Answers.{outcome_words}
+use Rattle.abi.specs.Answers.{answer_words, digest_bytes}
 use Rattle.abi.specs.Places.{signature_words}
 
 abbrev pub reply_words : Reply → List ℕ
@@ -36,11 +36,11 @@ operation_words (StoreWord at w) = 2 ∷ at % 4294967296 ∷ u32_at (bytes_of w)
 
 -- number, part and chunk of both questions
 abbrev pub asked_words : Asked → List ℕ
-asked_words a = outcome_words a.vendor.outcome ++ outcome_words a.firmware.outcome
+asked_words a = answer_words a.vendor ++ answer_words a.firmware
 
--- both digests, one behind the other
+-- both digests, one behind the other, and zeros in place of one that is refused
 abbrev pub asked_digests : Asked → List ℕ
-asked_digests a = a.vendor.digest ++ a.firmware.digest
+asked_digests a = digest_bytes a.vendor (replicate 32 0) ++ digest_bytes a.firmware (replicate 32 0)
 
 -- what the chip needs for each header, as places in n bytes
 abbrev pub signatures_words : ℕ → Signatures → List ℕ

@@ -5,14 +5,13 @@ ghost use Rattle.flash.specs.Operation.{bytes_of};
 ghost use Rattle.abi_session.specs.Answers.{operation_words};
 
 use abi::number::low;
-use flash::{Operation, Word, bytes_of};
-use octets::u32_at;
+use flash::{Operation, Word};
 
+#[tactic(auto, using(octets::proofs::Numbers::u32_from_bytes))]
 fn word_number(w: Word) -> u32
     ensures { result ≡ u32_at (bytes_of w) 0 }
 {
-    let bytes = bytes_of(w);
-    u32_at(&bytes, 0)
+    u32::from_le_bytes(w.into())
 }
 
 // The low 32 bits of the offset of a page.

@@ -2,34 +2,32 @@
 ghost use Rattle.std.specs.Prelude.{◌≡◌};
 ghost use Rattle.abi_session.specs.Record.{session_of, words_over};
 
-use abi::number::{bytes_of, low, whole};
+use abi::number::low;
 use octets::u32_at;
 use sessions::Session;
 
 // The record that words hold.
+#[tactic(auto, unfolding(crate::specs::Record::session_of))]
 pub fn session_of(w: [u32; 16]) -> Session
     ensures { result ≡ session_of w }
 {
-    let first = bytes_of(w[6]);
-    let held = bytes_of(w[7]);
     Session {
         phase: w[0],
-        slot: whole(w[1]),
-        file: whole(w[2]),
-        pages: whole(w[3]),
-        taken: whole(w[4]),
-        operations: whole(w[5]),
-        first,
-        held,
+        slot: w[1] as usize,
+        file: w[2] as usize,
+        pages: w[3] as usize,
+        taken: w[4] as usize,
+        operations: w[5] as usize,
+        first: w[6].to_le_bytes(),
+        held: w[7].to_le_bytes(),
     }
 }
 
 // A record as words, over what the words were before: the last eight are kept for later, and stay.
+#[tactic(auto, unfolding(crate::specs::Record::words_over))]
 pub fn words_over(old: [u32; 16], s: Session) -> [u32; 16]
     ensures { result ≡ words_over old s }
 {
-    let first = s.first;
-    let held = s.held;
     [
         s.phase,
         low(s.slot),
@@ -37,8 +35,8 @@ pub fn words_over(old: [u32; 16], s: Session) -> [u32; 16]
         low(s.pages),
         low(s.taken),
         low(s.operations),
-        u32_at(&first, 0),
-        u32_at(&held, 0),
+        u32_at(&s.first, 0),
+        u32_at(&s.held, 0),
         old[8],
         old[9],
         old[10],

@@ -12,11 +12,7 @@ fn reply_words(reply: Reply) -> [u32; 3]
     ensures { result ≡ reply_words reply }
 {
     match reply {
-        Reply::Begun => [0, 0, 0],
-        Reply::Erased => [0, 0, 0],
-        Reply::Took(_) => [0, 0, 0],
-        Reply::Accepted => [0, 0, 0],
-        Reply::Done => [0, 0, 0],
+        Reply::Begun | Reply::Erased | Reply::Took(_) | Reply::Accepted | Reply::Done => [0, 0, 0],
         Reply::Refused(number) => [number, 0, 0],
         Reply::Rejected(r) => [r.number, r.part, r.chunk],
     }
@@ -25,29 +21,16 @@ fn reply_words(reply: Reply) -> [u32; 3]
 fn taken_word(reply: Reply, old: [u32; 1]) -> [u32; 1]
     ensures { result ≡ taken_word reply old }
 {
-    match reply {
-        Reply::Begun => old,
-        Reply::Erased => old,
-        Reply::Took(k) => count(k),
-        Reply::Accepted => old,
-        Reply::Done => old,
-        Reply::Refused(_) => old,
-        Reply::Rejected(_) => old,
+    if let Reply::Took(k) = reply {
+        return count(k);
     }
+    old
 }
 
 fn own_refusal(reply: Reply) -> bool
     ensures { result ≡ own_refusal reply }
 {
-    match reply {
-        Reply::Begun => false,
-        Reply::Erased => false,
-        Reply::Took(_) => false,
-        Reply::Accepted => false,
-        Reply::Done => false,
-        Reply::Refused(_) => true,
-        Reply::Rejected(_) => false,
-    }
+    matches!(reply, Reply::Refused(_))
 }
 
 // The whole answer goes to answer, and its number comes back.
@@ -64,8 +47,7 @@ pub fn tell_answer(reply: Reply, answer: &mut [u32; 3]) -> u32
 pub fn tell_taken(reply: Reply, taken: &mut [u32; 1])
     ensures { taken.new ≡ taken_word reply taken.old }
 {
-    let old = *taken;
-    let word = taken_word(reply, old);
+    let word = taken_word(reply, *taken);
     *taken = word;
 }
 
@@ -79,8 +61,7 @@ pub fn tell_record(session: Session, reply: Reply, record: &mut [u32; 16]) -> u3
     if own_refusal(reply) {
         return told[0];
     }
-    let old = *record;
-    let words = words_over(old, session);
+    let words = words_over(*record, session);
     *record = words;
     told[0]
 }

@@ -12,28 +12,30 @@ use Rattle.blake2s.proofs.Laws.{word_alike, block_alike, padded, resumed}
 -- ---- how many blocks lie whole
 
 -- they fit into the lent bytes and end at stop or before it
-pub whole_fits : {r : ℕ} (len skip at stop : ℕ) → r ≡ whole_blocks len skip at stop → (r ≤ (stop - at) / 64) × (0 < r → (skip ≤ at) × (at - skip + 64 * r ≤ len))
+pub whole_fits : {r : ℕ} (len skip at stop : ℕ) → r ≡ whole_blocks len skip at stop → (r ≤ (stop - at) / 64) × (64 * r ≤ len - (at - skip)) × (0 < r → skip ≤ at)
 unfolding whole_blocks
 whole_fits len skip at stop e =
     elim (dec_le skip at) [
-      | yes y ↦ let z = rw (le-ltb at skip y) at e in (omega arith, λ g. (y, omega arith))
-      | no y ↦ let z = rw (lt-ltb at skip (omega arith)) at e in (omega arith, λ g. (omega arith, omega arith))
+      | yes y ↦ let z = rw (le-ltb at skip y) at e in (omega arith, omega arith, λ g. y)
+      | no y ↦ let z = rw (lt-ltb at skip (omega arith)) at e in (omega arith, omega arith, λ g. omega arith)
     ]
-
--- none from the offset on: the block there does not lie whole in the lent bytes
-pub not_whole : {r : ℕ} (len skip at stop : ℕ) → r ≡ whole_blocks len skip at stop → r ≤ 0 → at + 64 ≤ stop → skip ≤ at → len < at - skip + 64
-unfolding whole_blocks
-not_whole len skip at stop e n l h = let z = rw (le-ltb at skip h) at e in omega arith
 
 lent_whole : (len skip at stop j : ℕ) → skip ≤ at → at - skip + 64 * j + 64 ≤ len → at + 64 * j + 64 ≤ stop → j < whole_blocks len skip at stop
 unfolding whole_blocks
 lent_whole len skip at stop j h l e = rw (le-ltb at skip h) (omega arith)
 
+-- a block behind the run reaches past the end of the lent bytes
+pub past_whole : {r : ℕ} (len skip from end k : ℕ) → r ≡ whole_blocks len skip (64 * from) (64 * end) → skip ≤ 64 * from → from + r ≤ k → k < end → len < 64 * k - skip + 64
+past_whole len skip from end k e p g h =
+    elim (dec_le (64 * k - skip + 64) len) [
+      | yes y ↦ let z : k - from < whole_blocks len skip (64 * from) (64 * end) = lent_whole len skip (64 * from) (64 * end) (k - from) p (omega arith) (omega arith) in absurd (omega arith)
+      | no n ↦ omega arith
+    ]
+
 whole_lent : (len skip at stop j : ℕ) → j < whole_blocks len skip at stop → (skip ≤ at) × (at - skip + 64 * j + 64 ≤ len) × (at + 64 * j + 64 ≤ stop)
 whole_lent len skip at stop j h =
     let f = whole_fits len skip at stop refl in
-    let g = f.1 (omega arith) in
-    (g.0, omega (arith, g.1), omega (arith, f.0))
+    (f.2 (omega arith), omega (arith, f.1), omega (arith, f.0))
 
 -- ---- a block by itself
 

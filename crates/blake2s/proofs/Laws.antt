@@ -1,9 +1,10 @@
 -- Laws of the definition that the proofs cite: rounds, blocks, and messages whose bytes do not lie together.
 -- Assumes nothing.
-use Rattle.std.proofs.Common.{◌≡◌, ℕ, zero, suc, ◌+◌, ◌-◌, ◌*◌, ◌/◌, ◌%◌, ◌<◌, ◌≤◌, min, Bool, List, [], ◌∷◌, ◌++◌, length, get_or, take, drop, replicate, sym, refl, ap, ◌∙◌, add-zero, arith, length-append, length-drop, length-take-le, get_or-drop, take_all, get_or-take, get_or-append-add, le-ltb, lt-ltb}
+use Rattle.std.proofs.Common.{◌≡◌, ℕ, zero, suc, ◌+◌, ◌-◌, ◌*◌, ◌<◌, ◌≤◌, min, Bool, List, [], ◌∷◌, ◌++◌, length, get_or, take, drop, replicate, sym, refl, ap, ◌∙◌, add-zero, arith, length-append, length-take-le, get_or-drop, get_or-take, get_or-append-add, le-ltb, lt-ltb}
 use native.Mathlib.Nat.{sub-zero}
 use lib.ListN.{length-replicate, get_or-append, get_or-eq_default}
-use lib.Seq.{paste, length_paste_head}
+use borrow.Rule.Slice.PartMut.{put_mid}
+use Rattle.std.proofs.lemmas.List.{take_at, drop_at}
 use native.Mathlib.Decide.{dec_le}
 use Rattle.blake2s.specs.Rfc7693.{at, columns, diagonals, round, rounds, work_vector, folded, SIGMA, F, word_at, four_at, block_at, block_count, is_last, counter, absorbed, initial, serialised, blake2s_of}
 use Rattle.blake2s.specs.Parts.{block_of, run_at, zero_tailed}
@@ -35,31 +36,10 @@ compressed h m t f p q e = q ∙ ap (folded h) (e ∙ ap (λ (w : List ℕ). rou
 
 -- ---- the loop over the blocks
 
--- one block more, at an offset o behind at: what is left after it is what was left before it
-pub absorbed_step : {r b : List ℕ} {t : ℕ} {f : Bool} (m : ℕ → List ℕ) (n : ℕ) (h : List ℕ) (at o end : ℕ) → (at + o) % 64 ≡ 0 → (at + o) / 64 < end
-    → b ≡ m ((at + o) / 64) → t ≡ counter n ((at + o) / 64) → f ≡ is_last n ((at + o) / 64) → r ≡ F h b t f
-    → absorbed m n r ((at + (o + 64)) / 64) (end - (at + (o + 64)) / 64) ≡ absorbed m n h ((at + o) / 64) (end - (at + o) / 64)
+-- no block
+pub absorbed_none : (m : ℕ → List ℕ) (n : ℕ) (h : List ℕ) (k : ℕ) → h ≡ absorbed m n h k 0
 unfolding absorbed
-absorbed_step m n h at o end a l p q u e =
-    let z : end - (at + o) / 64 ≡ suc (end - (at + (o + 64)) / 64) = omega arith in
-    let y : (at + (o + 64)) / 64 ≡ suc ((at + o) / 64) = omega arith in
-    rw (z, e, p, q, u, y)
-
--- a run starts with all of its blocks left
-pub absorbed_count : (m : ℕ → List ℕ) (n : ℕ) (h : List ℕ) (at count : ℕ) → absorbed m n h ((at + 0) / 64) (at / 64 + count - (at + 0) / 64) ≡ absorbed m n h (at / 64) count
-absorbed_count m n h at count =
-    let z : at / 64 + count - (at + 0) / 64 ≡ count = omega arith in
-    let y : (at + 0) / 64 ≡ at / 64 = omega arith in
-    rw (z, y)
-
--- the block at offset 64 * k is block k
-pub absorbed_from : (m : ℕ → List ℕ) (n : ℕ) (h : List ℕ) (k end : ℕ) → absorbed m n h (64 * k / 64) (end - 64 * k / 64) ≡ absorbed m n h k (end - k)
-absorbed_from m n h k end = let e : 64 * k / 64 ≡ k = omega arith in rw e
-
--- no block is left
-pub absorbed_all : (m : ℕ → List ℕ) (n : ℕ) (h : List ℕ) (k end : ℕ) → end ≤ k → absorbed m n h k (end - k) ≡ h
-unfolding absorbed
-absorbed_all m n h k end l = let z : end - k ≡ 0 = omega arith in rw z
+absorbed_none m n h k = refl
 
 -- blocks that are the same give the same state
 absorbed_same : (b c : ℕ → List ℕ) (n : ℕ) (h : List ℕ) (k left : ℕ) → ((j : ℕ) → k ≤ j → j < k + left → b j ≡ c j) → absorbed b n h k left ≡ absorbed c n h k left
@@ -80,14 +60,19 @@ resumed m n h k (suc a) b =
     let q : k + suc a ≡ suc k + a = omega arith in
     rw (p, q) (resumed m n (F h (m k) (counter n k) (is_last n k)) (suc k) a b)
 
--- a run of count blocks more, at offset at
-pub absorbed_run : {r : List ℕ} (b m : ℕ → List ℕ) (n : ℕ) (h : List ℕ) (at count end : ℕ) → at % 64 ≡ 0 → at / 64 + count ≤ end
-    → ((j : ℕ) → at / 64 ≤ j → j < at / 64 + count → b j ≡ m j) → r ≡ absorbed b n h (at / 64) count
-    → absorbed m n r ((at + 64 * count) / 64) (end - (at + 64 * count) / 64) ≡ absorbed m n h (at / 64) (end - at / 64)
-absorbed_run b m n h at count end a l s e =
-    let z : end - at / 64 ≡ count + (end - (at / 64 + count)) = omega arith in
-    let y : (at + 64 * count) / 64 ≡ at / 64 + count = omega arith in
-    rw (z, y, e, absorbed_same b m n h (at / 64) count s) (sym (resumed m n h (at / 64) count (end - (at / 64 + count))))
+-- one block more
+pub absorbed_more : {r s b : List ℕ} {t : ℕ} {f : Bool} (m : ℕ → List ℕ) (n : ℕ) (h : List ℕ) (k j : ℕ) → s ≡ absorbed m n h k j
+    → b ≡ m (k + j) → t ≡ counter n (k + j) → f ≡ is_last n (k + j) → r ≡ F s b t f → r ≡ absorbed m n h k (j + 1)
+unfolding absorbed
+absorbed_more m n h k j o p q u e = e ∙ rw (o, p, q, u) (sym (resumed m n h k j 1))
+
+-- count blocks more
+pub absorbed_on : {r s : List ℕ} (b m : ℕ → List ℕ) (n : ℕ) (h : List ℕ) (from k count : ℕ) → from ≤ k → ((j : ℕ) → k ≤ j → j < k + count → b j ≡ m j)
+    → s ≡ absorbed m n h from (k - from) → r ≡ absorbed b n s k count → r ≡ absorbed m n h from (k + count - from)
+absorbed_on b m n h from k count l e p q =
+    let z : k + count - from ≡ k - from + count = omega arith in
+    let y : from + (k - from) ≡ k = omega arith in
+    q ∙ absorbed_same b m n _ k count e ∙ rw z (sym (rw (y, ← p) at (resumed m n h from (k - from) count)))
 
 -- ---- words and blocks at places that hold the same bytes
 
@@ -130,89 +115,51 @@ block_alike d i e j h =
 
 -- ---- a block copied together
 
--- what stands in d before, in and behind the n bytes of s that are copied over it at an offset
-module _ (d s : List ℕ) (at n : ℕ) (room : at + n ≤ length d) (there : n ≤ length s) where
-  head_length : length (take at d) ≡ at
-  head_length = length-take-le at d (omega arith)
-
-  both_length : length (take at d ++ take n s) ≡ at + n
-  both_length = length_paste_head d at s n (omega arith) there
-
-  pub copied_before : (k : ℕ) → k < at → get_or (paste d at s n) k 0 ≡ get_or d k 0
-  copied_before k h =
-      get_or-append (take at d ++ take n s) (drop (at + n) d) 0 k (omega (arith, both_length))
-      ∙ get_or-append (take at d) (take n s) 0 k (omega (arith, head_length))
-      ∙ get_or-take at d k 0 h
-
-  pub copied_in : (k : ℕ) → k < n → get_or (paste d at s n) (at + k) 0 ≡ get_or s k 0
-  copied_in k h =
-      get_or-append (take at d ++ take n s) (drop (at + n) d) 0 (at + k) (omega (arith, both_length))
-      ∙ ap (λ (i : ℕ). get_or (take at d ++ take n s) (i + k) 0) (sym head_length)
-      ∙ get_or-append-add (take at d) (take n s) k 0
-      ∙ get_or-take n s k 0 h
-
-  pub copied_behind : (k : ℕ) → get_or (paste d at s n) (at + n + k) 0 ≡ get_or d (at + n + k) 0
-  copied_behind k =
-      ap (λ (i : ℕ). get_or (paste d at s n) (i + k) 0) (sym both_length)
-      ∙ get_or-append-add (take at d ++ take n s) (drop (at + n) d) k 0
-      ∙ get_or-drop (at + n) d k 0
-
 zeros_at : (n k : ℕ) → ◌≡◌ {A = ℕ} (get_or (replicate n 0) k 0) 0
 zeros_at zero k = refl
 zeros_at (suc n) zero = refl
 zeros_at (suc n) (suc k) = zeros_at n k
 
--- no byte of s is left at i: the block is zeros
-pub block_past : (s : List ℕ) (i : ℕ) → length s ≤ i → block_at (replicate 64 0) 0 ≡ block_at s i
-block_past s i h = block_alike (replicate 64 0) 0 s i (λ k g. zeros_at 64 (0 + k) ∙ sym (get_or-eq_default s 0 (omega arith)))
+-- the bytes of s copied over z zeros read as those of s
+copied_at : (s : List ℕ) (z n j : ℕ) → n ≡ min (length s) z → j < z → get_or (take n s ++ drop n (replicate z 0)) j 0 ≡ get_or s j 0
+copied_at s z n j e l = elim (dec_le n j) [ yes y ↦ past y | no y ↦ here (omega arith) ]
+  where
+    taken : length (take n s) ≡ n
+    taken = length-take-le n s (omega arith)
+
+    here : j < n → get_or (take n s ++ drop n (replicate z 0)) j 0 ≡ get_or s j 0
+    here h = get_or-append (take n s) (drop n (replicate z 0)) 0 j (omega (arith, taken)) ∙ get_or-take n s j 0 h
+
+    past : n ≤ j → get_or (take n s ++ drop n (replicate z 0)) j 0 ≡ get_or s j 0
+    past h =
+        let i : j ≡ length (take n s) + (j - n) = omega (arith, taken) in
+        ap (λ (k : ℕ). get_or (take n s ++ drop n (replicate z 0)) k 0) i
+        ∙ get_or-append-add (take n s) (drop n (replicate z 0)) (j - n) 0
+        ∙ get_or-drop n (replicate z 0) (j - n) 0
+        ∙ zeros_at z (n + (j - n))
+        ∙ sym (get_or-eq_default s 0 (omega arith))
 
 -- the bytes of s from i on, copied over zeros
-pub block_copied : {c p : List ℕ} {n : ℕ} (s : List ℕ) (i : ℕ) → i < length s → p ≡ take (length s - i) (drop i s) → n ≡ min (length s - i) 64 → c ≡ paste (replicate 64 0) 0 p n → block_at c 0 ≡ block_at s i
-block_copied {c} {p} {n} s i h e l q = block_alike c 0 s i (λ k g. elim (dec_le n k) [ yes y ↦ past k g y | no y ↦ here k g (omega arith) ])
-  where
-    rest : p ≡ drop i s
-    rest = e ∙ take_all (length s - i) (drop i s) (rw length-drop (omega arith))
+pub block_copied : {b r : List ℕ} {n : ℕ} (s : List ℕ) (i : ℕ) → r ≡ drop i s → n ≡ min (length r) 64 → b ≡ take n r → block_at (b ++ drop n (replicate 64 0)) 0 ≡ block_at s i
+block_copied {r = r} {n = n} s i p e q =
+    rw q (block_alike (take n r ++ drop n (replicate 64 0)) 0 s i (λ k g. let z : 0 + k ≡ k = omega arith in rw z (copied_at r 64 n k e g ∙ ap (λ (l : List ℕ). get_or l k 0) p ∙ get_or-drop i s k 0)))
 
-    long : length p ≡ length s - i
-    long = ap length rest ∙ length-drop i s
+-- ---- the blocks of a message
 
-    room : 0 + n ≤ length (replicate {A = ℕ} 64 0)
-    room = omega (arith, length-replicate {A = ℕ} 64 0)
+-- a block that stands apart
+pub block_apart : (first s : List ℕ) (skip k : ℕ) → 64 * k < skip → block_at first 0 ≡ block_of first s skip k
+block_apart first s skip k h = rw (lt-ltb _ _ h)
 
-    there : n ≤ length p
-    there = omega (arith, long)
-
-    here : (k : ℕ) → k < 64 → k < n → at c (0 + k) ≡ at s (i + k)
-    here k g y = rw q (copied_in (replicate 64 0) p 0 n room there k y) ∙ ap (λ (x : List ℕ). get_or x k 0) rest ∙ get_or-drop i s k 0
-
-    past : (k : ℕ) → k < 64 → n ≤ k → at c (0 + k) ≡ at s (i + k)
-    past k g y =
-        let z : 0 + k ≡ 0 + n + (k - n) = omega arith in
-        rw (q, z) (copied_behind (replicate 64 0) p 0 n room there (k - n)) ∙ zeros_at 64 (0 + n + (k - n)) ∙ sym (get_or-eq_default s 0 (omega arith))
-
--- ---- the blocks of a message by their offsets
-
--- a block that stands apart, by its offset
-pub block_apart : (first s : List ℕ) (skip at : ℕ) → at < skip → at % 64 ≡ 0 → block_at first 0 ≡ block_of first s skip (at / 64)
-block_apart first s skip at z a = let x : 64 * (at / 64) < skip = omega arith in rw (lt-ltb _ _ x)
-
--- a block that stands in s, by its offset
-pub block_in : (first s : List ℕ) (skip at : ℕ) → skip ≤ at → at % 64 ≡ 0 → block_at s (at - skip) ≡ block_of first s skip (at / 64)
-block_in first s skip at z a =
-    let y : skip ≤ 64 * (at / 64) = omega arith in
-    let x : 64 * (at / 64) ≡ at = omega arith in
-    rw (le-ltb _ _ y, x)
+-- a block that stands in s
+pub block_in : (first s : List ℕ) (skip k : ℕ) → skip ≤ 64 * k → block_at s (64 * k - skip) ≡ block_of first s skip k
+block_in first s skip k h = rw (le-ltb _ _ h)
 
 -- a run of blocks in s
-pub run_in : (first s : List ℕ) (skip at : ℕ) → skip ≤ at → at % 64 ≡ 0 → (j : ℕ) → at / 64 ≤ j → run_at s (at - skip) (at / 64) j ≡ block_of first s skip j
-run_in first s skip at z a j g =
+pub run_in : (first s : List ℕ) (skip k : ℕ) → skip ≤ 64 * k → (j : ℕ) → k ≤ j → run_at s (64 * k - skip) k j ≡ block_of first s skip j
+run_in first s skip k h j g =
     let y : skip ≤ 64 * j = omega arith in
-    let x : at - skip + 64 * (j - at / 64) ≡ 64 * j - skip = omega arith in
-    rw (le-ltb (64 * j) skip y, x)
-
--- the block o behind the start of a run
-pub run_at_lem : (s : List ℕ) (i at o : ℕ) → at % 64 ≡ 0 → o % 64 ≡ 0 → block_at s (i + o) ≡ run_at s i (at / 64) ((at + o) / 64)
-run_at_lem s i at o a e = let z : 64 * ((at + o) / 64 - at / 64) ≡ o = omega arith in rw z
+    let z : 64 * k - skip + 64 * (j - k) ≡ 64 * j - skip = omega arith in
+    rw (le-ltb (64 * j) skip y, z)
 
 -- one block by itself
 pub run_one : (c : List ℕ) (m : ℕ → List ℕ) (k : ℕ) → block_at c 0 ≡ m k → (j : ℕ) → k ≤ j → j < k + 1 → run_at c 0 k j ≡ m j
@@ -258,59 +205,33 @@ module _ (w s : List ℕ) where
       earlier y = let z : 64 * k ≡ 0 = omega arith in rw (lt-ltb (64 * k) skip y, z) (f (omega arith))
 
   -- the digest, by the loop over its blocks
-  pub message_hashed : {h x r : List ℕ} {n skip : ℕ} (first : List ℕ) → length w ≡ skip → skip ≤ 64 → n ≡ skip + length s + 65 → h ≡ initial → (0 < skip → block_at first 0 ≡ block_at message 0)
-      → x ≡ absorbed (block_of first s skip) n h 0 (block_count n - 0) → r ≡ serialised x → r ≡ blake2s_of message
+  pub message_hashed : {r : List ℕ} {n skip : ℕ} (first : List ℕ) → length w ≡ skip → skip ≤ 64 → n ≡ skip + length s + 65 → (0 < skip → block_at first 0 ≡ block_at message 0)
+      → r ≡ serialised (absorbed (block_of first s skip) n initial 0 (block_count n)) → r ≡ blake2s_of message
   unfolding blake2s_of
-  message_hashed {skip = skip} first l b q u p e f =
+  message_hashed {skip = skip} first l b q p e =
       let t : length message ≡ skip + length s + 65 = omega (arith, message_length) in
-      f ∙ ap serialised (e ∙ rw (q, u, t, sub-zero) (absorbed_same _ _ _ _ _ _ (λ k g h. message_block first skip l b p k)))
+      e ∙ ap serialised (rw (q, t) (absorbed_same _ _ _ _ _ _ (λ k g h. message_block first skip l b p k)))
 
   -- its first block, copied together behind a word
-  pub word_block : {a c : List ℕ} {n : ℕ} → length w ≡ 4 → n ≡ min (length s) 60 → a ≡ paste (replicate 64 0) 0 w 4 → length a ≡ 64 → c ≡ paste a 4 s n → block_at c 0 ≡ block_at message 0
-  word_block {a} {c} {n} l m e la f = block_alike c 0 message 0 (λ k g. elim (dec_le 4 k) [ yes y ↦ elim (dec_le (4 + n) k) [ yes z ↦ past k g z | no z ↦ here k y (omega arith) ] | no y ↦ first k (omega arith) ])
+  pub word_block : {a c : List ℕ} {n : ℕ} → length w ≡ 4 → n ≡ min (length s) 60 → a ≡ w → c ≡ take n s → block_at (put_mid 4 (4 + n - 4) (a ++ replicate 60 0) c) 0 ≡ block_at message 0
+  word_block {n = n} l m e f = let z : 4 + n - 4 ≡ n = omega arith in rw (z, f, e, take_at w (replicate 60 0) 4 l, drop_at w (replicate 60 0) 4 l) (block_alike (w ++ tail) 0 message 0 same)
     where
-      room : 0 + 4 ≤ length (replicate {A = ℕ} 64 0)
-      room = omega (arith, length-replicate {A = ℕ} 64 0)
+      tail : List ℕ
+      tail = take n s ++ drop n (replicate 60 0)
 
-      behind : 4 + n ≤ length a
-      behind = omega arith
-
-      there : n ≤ length s
-      there = omega arith
-
-      first : (k : ℕ) → k < 4 → at c (0 + k) ≡ at message (0 + k)
-      first k h =
-          let z : 0 + k ≡ k = omega arith in
-          rw (z, f)
-          (copied_before a s 4 n behind there k h
-          ∙ rw e (ap (λ (i : ℕ). get_or (paste (replicate 64 0) 0 w 4) i 0) (sym z) ∙ copied_in (replicate 64 0) w 0 4 room (omega arith) k h)
-          ∙ sym (get_or-append w (zero_tailed s) 0 k (omega arith)))
-
-      here : (k : ℕ) → 4 ≤ k → k < 4 + n → at c (0 + k) ≡ at message (0 + k)
-      here k y h =
-          let z : 0 + k ≡ 4 + (k - 4) = omega arith in
-          let v : 4 + (k - 4) ≡ length w + (k - 4) = omega arith in
-          rw (z, f) (copied_in a s 4 n behind there (k - 4) (omega arith) ∙ sym (ap (at message) v ∙ message_at (k - 4)))
-
-      -- past the bytes of s the message has zeros
-      past : (k : ℕ) → k < 64 → 4 + n ≤ k → at c (0 + k) ≡ at message (0 + k)
-      past k g h =
-          let z : 0 + k ≡ 4 + n + (k - (4 + n)) = omega arith in
-          let y : 4 + n + (k - (4 + n)) ≡ 0 + 4 + (k - 4) = omega arith in
-          let v : 4 + n + (k - (4 + n)) ≡ length w + (k - 4) = omega arith in
-          rw (z, f)
-          (copied_behind a s 4 n behind there (k - (4 + n))
-          ∙ ap (at a) y
-          ∙ rw e (copied_behind (replicate 64 0) w 0 4 room (omega arith) (k - 4))
-          ∙ zeros_at 64 (0 + 4 + (k - 4))
-          ∙ sym (ap (at message) v ∙ message_at (k - 4) ∙ get_or-eq_default s 0 (omega arith)))
+      same : (k : ℕ) → k < 64 → at (w ++ tail) (0 + k) ≡ at message (0 + k)
+      same k g = elim (dec_le 4 k) [ yes y ↦ behind y | no y ↦ get_or-append w tail 0 (0 + k) (omega arith) ∙ sym (get_or-append w (zero_tailed s) 0 (0 + k) (omega arith)) ]
+        where
+          behind : 4 ≤ k → at (w ++ tail) (0 + k) ≡ at message (0 + k)
+          behind y =
+              let z : 0 + k ≡ length w + (k - 4) = omega arith in
+              rw z (get_or-append-add w tail (k - 4) 0 ∙ copied_at s 60 n (k - 4) m (omega arith) ∙ sym (message_at (k - 4)))
 
 -- ---- a message that lies together
 
 plain_block : (first d : List ℕ) (k : ℕ) → block_of first d 0 k ≡ block_at d (64 * k)
 plain_block first d k = let z : 0 ≤ 64 * k = omega arith in rw (le-ltb (64 * k) 0 z, sub-zero)
 
-pub plain_hashed : {h x r : List ℕ} (first d : List ℕ) → h ≡ initial → x ≡ absorbed (block_of first d 0) (length d) h 0 (block_count (length d) - 0) → r ≡ serialised x
-    → r ≡ blake2s_of d
+pub plain_hashed : {r : List ℕ} (first d : List ℕ) → r ≡ serialised (absorbed (block_of first d 0) (length d) initial 0 (block_count (length d))) → r ≡ blake2s_of d
 unfolding blake2s_of
-plain_hashed first d s e f = f ∙ ap serialised (e ∙ rw (s, sub-zero) (absorbed_same _ _ _ _ _ _ (λ k g h. plain_block first d k)))
+plain_hashed first d e = e ∙ ap serialised (absorbed_same _ _ _ _ _ _ (λ k g h. plain_block first d k))

@@ -5,7 +5,6 @@ use Rattle.blake2s.specs.declared.mixing.Triples.{Triples}
 use Rattle.blake2s.specs.declared.mixing.Work.{Work}
 use Rattle.blake2s.specs.declared.mixing.Block.{Block}
 use Rattle.blake2s.specs.declared.mixing.State.{State}
-use Rattle.blake2s.specs.declared.blocks.Bytes.{Bytes}
 
 abbrev pub quad : Quad → List ℕ
 quad r = r.a ∷ r.b ∷ r.c ∷ r.d ∷ []
@@ -28,6 +27,3 @@ block r = r.m0 ∷ r.m1 ∷ r.m2 ∷ r.m3 ∷ r.m4 ∷ r.m5 ∷ r.m6 ∷ r.m7 �
 
 abbrev pub state : State → List ℕ
 state r = r.h0 ∷ r.h1 ∷ r.h2 ∷ r.h3 ∷ r.h4 ∷ r.h5 ∷ r.h6 ∷ r.h7 ∷ []
-
-abbrev pub four : Bytes → List ℕ
-four r = r.b0 ∷ r.b1 ∷ r.b2 ∷ r.b3 ∷ []

@@ -4,26 +4,19 @@
 // The loop takes a start state and a first block, so that a message may be hashed in slices. A
 // block that lies in the lent bytes whole is mixed where it lies, the last one too. Only a block
 // that starts before them or reaches past their end is copied.
-ghost use Rattle.std.specs.Prelude.{◌≡◌, ◌+◌, ◌-◌, ◌*◌, ◌/◌, ◌%◌, ◌^◌, ◌<◌, ◌≤◌, min, ◌++◌, length};
-ghost use Rattle.std.proofs.Math.Seq.{paste};
-ghost use Rattle.blake2s.specs.Rfc7693.{F, word_at, four_at, block_at, block_count, is_last, counter, absorbed, initial, bytes_of, serialised};
+ghost use Rattle.std.specs.Prelude.{◌≡◌, ℕ, ◌+◌, ◌-◌, ◌*◌, ◌^◌, ◌<◌, ◌≤◌, ◌++◌, length, drop};
+ghost use Rattle.blake2s.specs.Rfc7693.{F, word_at, four_at, block_at, block_count, absorbed, initial, serialised};
 ghost use Rattle.blake2s.specs.Parts.{block_of, run_at, whole_blocks, zero_tailed};
-ghost use Rattle.blake2s.specs.Words.{quad, four, block, state};
+ghost use Rattle.blake2s.specs.Words.{quad, block, state};
 
 use crate::mixing::{Block, Quad, State, compress};
-
-fn wide(x: u8) -> u32
-    ensures { (result ≡ x) × (result < 256) }
-{
-    x as u32
-}
 
 // The word at i, the least byte first.
 fn word(s: &[u8], i: usize) -> u32
     requires { i + 3 < length s.now }
     ensures { result ≡ word_at s.now i }
 {
-    wide(s[i]) + 256 * wide(s[i + 1]) + 65536 * wide(s[i + 2]) + 16777216 * wide(s[i + 3])
+    u32::from_le_bytes([s[i], s[i + 1], s[i + 2], s[i + 3]])
 }
 
 // Four words from i on.
@@ -76,25 +69,11 @@ fn mix_at(s: &[u8], i: usize, h: State, t: u64, last: bool) -> State
     compress(h, block_at(s, i), t, last)
 }
 
-// The bytes with the first n of s copied over them at an offset. Never all 64 are.
-fn copied(bytes: [u8; 64], at: usize, s: &[u8], n: usize) -> [u8; 64]
-    requires { (n < 64) × (at + n ≤ 64) × (n ≤ length s.now) }
-    ensures { (result ≡ paste bytes at s.now n) × (length bytes ≡ 64) }
+// The bytes from i on: none past the end of s. `octets` has it too, and this crate stands on none.
+fn rest(s: &[u8], i: usize) -> &[u8]
+    ensures { result.now ≡ drop i s.now }
 {
-    let mut block = bytes;
-    let mut k: usize = 0;
-    while k < n {
-        block[at + k] = s[k];
-        k += 1;
-    }
-    block
-}
-
-// The lesser of two lengths.
-fn lesser(a: usize, b: usize) -> usize
-    ensures { result ≡ min a b }
-{
-    if a <= b { a } else { b }
+    &s[i.min(s.len())..]
 }
 
 // The 64 bytes at i, with zeros past the end of s, which is before theirs.
@@ -102,55 +81,45 @@ fn padded(s: &[u8], i: usize) -> [u8; 64]
     requires { length s.now < i + 64 }
     ensures { block_at result 0 ≡ block_at s.now i }
 {
-    if s.len() <= i {
-        return [0; 64];
-    }
-    copied([0; 64], 0, &s[i..], lesser(s.len() - i, 64))
+    let bytes = rest(s, i);
+    let n = bytes.len().min(64);
+    let mut block = [0; 64];
+    block[..n].copy_from_slice(&bytes[..n]);
+    block
 }
 
 // The first 64 bytes of a message of four bytes, those of s, and zeros.
 pub fn after_word(first: [u8; 4], s: &[u8]) -> [u8; 64]
     ensures { (block_at result 0 ≡ block_at (first ++ zero_tailed s.now) 0) × (length first ≡ 4) }
 {
-    let word = copied([0; 64], 0, &first, 4);
-    copied(word, 4, s, lesser(s.len(), 60))
+    let n = s.len().min(60);
+    let mut block = [0; 64];
+    block[..4].copy_from_slice(&first);
+    block[4..4 + n].copy_from_slice(&s[..n]);
+    block
 }
 
 // How many blocks a message of n bytes has.
-pub fn block_count(n: usize) -> usize
+fn block_count(n: usize) -> usize
     ensures { result ≡ block_count n }
 {
-    if n == 0 { 1 } else { (n - 1) / 64 + 1 }
+    n.saturating_sub(1) / 64 + 1
 }
 
-// Whether the block at an offset is the last of n bytes.
-fn is_last(n: usize, at: usize) -> bool
-    requires { (at % 64 ≡ 0) × (at < 2 ^ 63 + 512) }
-    ensures { result ≡ is_last n (at / 64) }
+// The state after count blocks that lie together in s from i on, from block k of a message of n
+// bytes on. This is the one loop that mixes. It counts bytes, since a `for` over the blocks or over
+// their numbers makes the digest slower by 2 percent and more.
+fn absorb_run(h: State, s: &[u8], i: usize, count: usize, n: usize, k: usize) -> State
+    requires { (i + 64 * count ≤ length s.now) × (k + count < 2 ^ 57 + 4) }
+    ensures { state result ≡ absorbed (run_at s.now i k) n (state h) k count }
 {
-    n <= at + 64
-}
-
-// The message's bytes up to the end of the block at an offset.
-fn counter(n: usize, at: usize) -> u64
-    requires { (at % 64 ≡ 0) × (at < 2 ^ 63 + 512) }
-    ensures { result ≡ counter n (at / 64) }
-{
-    let end = at + 64;
-    if end <= n { end as u64 } else { n as u64 }
-}
-
-// The state after count blocks that lie together in s from i on. They stand at offset at of a
-// message of n bytes. This is the one loop that mixes.
-fn absorb_run(h: State, s: &[u8], i: usize, count: usize, n: usize, at: usize) -> State
-    requires { (i + 64 * count ≤ length s.now) × (at % 64 ≡ 0) × (at + 64 * count < 2 ^ 63 + 512) }
-    ensures { state result ≡ absorbed (run_at s.now i (at / 64)) n (state h) (at / 64) count }
-{
+    let start = 64 * k;
     let end = 64 * count;
     let mut now = h;
-    let mut o: usize = 0;
+    let mut o = 0;
     while o < end {
-        now = mix_at(s, i + o, now, counter(n, at + o), is_last(n, at + o));
+        let stop = start + o + 64;
+        now = mix_at(s, i + o, now, stop.min(n) as u64, n <= stop);
         o += 64;
     }
     now
@@ -165,59 +134,83 @@ fn whole_blocks(len: usize, skip: usize, at: usize, stop: usize) -> usize
     if at < skip {
         return 0;
     }
-    let i = at - skip;
-    if len <= i {
-        return 0;
-    }
-    lesser((len - i) / 64, (stop - at) / 64)
+    (len.saturating_sub(at - skip) / 64).min((stop - at) / 64)
 }
 
-// The 64 bytes of the block at an offset: first, if it starts before skip, and else those that
-// stand skip places earlier in s, with zeros past its end. A block that lies whole in s may not be
-// copied.
-fn block_copy(first: [u8; 64], s: &[u8], skip: usize, at: usize) -> [u8; 64]
-    requires { (at % 64 ≡ 0) × (skip ≤ at → length s.now < at - skip + 64) }
-    ensures { block_at result 0 ≡ block_of first s.now skip (at / 64) }
-{
-    if at < skip {
-        return first;
-    }
-    padded(s, at - skip)
+// A message of len bytes. The lent bytes stand at offset skip of it, and zeros behind them. A block
+// that starts before the lent bytes is `first`.
+#[derive(Drop)]
+pub struct Message<'a> {
+    pub first: [u8; 64],
+    pub lent: &'a [u8],
+    pub skip: usize,
+    pub len: usize,
 }
 
-// The state after the blocks from `from` up to `end`, from the state h on, of a message of n bytes
-// that block_copy describes. Blocks that lie in s whole are mixed where they lie.
-pub fn absorb(
-    h: State,
-    first: [u8; 64],
-    s: &[u8],
-    skip: usize,
-    n: usize,
-    from: usize,
-    end: usize,
-) -> State
-    requires { (from ≤ end) × (end < 2 ^ 57 + 4) }
-    ensures { state result ≡ absorbed (block_of first s.now skip) n (state h) from (end - from) }
-{
-    let stop = 64 * end;
-    let mut now = h;
-    let mut at = 64 * from;
-    while at < stop {
-        let count = whole_blocks(s.len(), skip, at, stop);
-        if 0 < count {
-            now = absorb_run(now, s, at - skip, count, n, at);
-            at += 64 * count;
+impl Message<'_> {
+    // The 64 bytes of block k. A block that lies whole in the lent bytes may not be copied.
+    fn block_copy(&self, k: usize) -> [u8; 64]
+        requires { (k < 2 ^ 57 + 4) × (self.now.skip ≤ 64 * k → length self.now.lent.now < 64 * k - self.now.skip + 64) }
+        ensures { block_at result 0 ≡ block_of self.now.first self.now.lent.now self.now.skip k }
+    {
+        if 64 * k < self.skip {
+            self.first
         } else {
-            let bytes = block_copy(first, s, skip, at);
-            now = absorb_run(now, &bytes, 0, 1, n, at);
-            at += 64;
+            padded(self.lent, 64 * k - self.skip)
         }
     }
-    now
+
+    // The state after the blocks from `from` up to `end`, none of which lies whole in the lent
+    // bytes. Each is copied.
+    fn absorb_copied(&self, h: State, from: usize, end: usize) -> State
+        requires { (from ≤ end) × (end < 2 ^ 57 + 4) × ((k : ℕ) → from ≤ k → k < end → self.now.skip ≤ 64 * k → length self.now.lent.now < 64 * k - self.now.skip + 64) }
+        ensures { state result ≡ absorbed (block_of self.now.first self.now.lent.now self.now.skip) self.now.len (state h) from (end - from) }
+    {
+        let mut now = h;
+        for k in from..end {
+            now = absorb_run(now, &self.block_copy(k), 0, 1, self.len, k);
+        }
+        now
+    }
+
+    // The state after the blocks from `from` up to `end`, from the state h on. Those that lie whole
+    // in the lent bytes are one run, and are mixed where they lie.
+    #[inline(always)]
+    fn absorb(&self, h: State, from: usize, end: usize) -> State
+        requires { (from ≤ end) × (end < 2 ^ 57 + 4) }
+        ensures { state result ≡ absorbed (block_of self.now.first self.now.lent.now self.now.skip) self.now.len (state h) from (end - from) }
+    {
+        let start = self.skip.div_ceil(64).clamp(from, end);
+        let count = whole_blocks(self.lent.len(), self.skip, 64 * start, 64 * end);
+        let before = self.absorb_copied(h, from, start);
+        let within = if 0 < count {
+            absorb_run(
+                before,
+                self.lent,
+                64 * start - self.skip,
+                count,
+                self.len,
+                start,
+            )
+        } else {
+            before
+        };
+        self.absorb_copied(within, start + count, end)
+    }
+
+    // The digest: that of the state after all blocks. It is made for each caller by itself, which
+    // leaves out what a message without a first block does not need.
+    #[inline(always)]
+    pub fn digest(&self) -> [u8; 32]
+        requires { self.now.len < 2 ^ 63 + 128 }
+        ensures { result ≡ serialised (absorbed (block_of self.now.first self.now.lent.now self.now.skip) self.now.len initial 0 (block_count self.now.len)) }
+    {
+        serialised(self.absorb(initial(), 0, block_count(self.len)))
+    }
 }
 
 // The state before the first block.
-pub fn initial() -> State
+fn initial() -> State
     ensures { state result ≡ initial }
 {
     State {
@@ -232,41 +225,18 @@ pub fn initial() -> State
     }
 }
 
-// The bytes of a word, the least first.
-#[derive(Clone, Copy)]
-pub struct Bytes {
-    pub b0: u8,
-    pub b1: u8,
-    pub b2: u8,
-    pub b3: u8,
-}
-
-fn bytes_of(w: u32) -> Bytes
-    ensures { four result ≡ bytes_of w }
-{
-    Bytes {
-        b0: (w % 256) as u8,
-        b1: (w / 256 % 256) as u8,
-        b2: (w / 65536 % 256) as u8,
-        b3: (w / 16777216 % 256) as u8,
-    }
-}
-
-// The digest: the bytes of the state.
-pub fn serialised(h: State) -> [u8; 32]
+// The bytes of the state, those of a word the least first.
+fn serialised(h: State) -> [u8; 32]
     ensures { result ≡ serialised (state h) }
 {
-    let w0 = bytes_of(h.h0);
-    let w1 = bytes_of(h.h1);
-    let w2 = bytes_of(h.h2);
-    let w3 = bytes_of(h.h3);
-    let w4 = bytes_of(h.h4);
-    let w5 = bytes_of(h.h5);
-    let w6 = bytes_of(h.h6);
-    let w7 = bytes_of(h.h7);
-    [
-        w0.b0, w0.b1, w0.b2, w0.b3, w1.b0, w1.b1, w1.b2, w1.b3, w2.b0, w2.b1, w2.b2, w2.b3, w3.b0,
-        w3.b1, w3.b2, w3.b3, w4.b0, w4.b1, w4.b2, w4.b3, w5.b0, w5.b1, w5.b2, w5.b3, w6.b0, w6.b1,
-        w6.b2, w6.b3, w7.b0, w7.b1, w7.b2, w7.b3,
-    ]
+    let mut bytes = [0; 32];
+    bytes[..4].copy_from_slice(&h.h0.to_le_bytes());
+    bytes[4..8].copy_from_slice(&h.h1.to_le_bytes());
+    bytes[8..12].copy_from_slice(&h.h2.to_le_bytes());
+    bytes[12..16].copy_from_slice(&h.h3.to_le_bytes());
+    bytes[16..20].copy_from_slice(&h.h4.to_le_bytes());
+    bytes[20..24].copy_from_slice(&h.h5.to_le_bytes());
+    bytes[24..28].copy_from_slice(&h.h6.to_le_bytes());
+    bytes[28..].copy_from_slice(&h.h7.to_le_bytes());
+    bytes
 }

@@ -15,39 +15,43 @@ ghost use Rattle.std.specs.Prelude.{◌≡◌, ◌++◌};
 ghost use Rattle.blake2s.specs.Rfc7693.{blake2s_of};
 ghost use Rattle.blake2s.specs.Parts.{zero_tailed};
 
-use blocks::{absorb, after_word, block_count, initial, serialised};
+use blocks::{Message, after_word};
 
 // The digest of the bytes.
 pub fn blake2s(bytes: &[u8]) -> [u8; 32]
     ensures { result ≡ blake2s_of bytes.now }
 {
-    let n = bytes.len();
-    let h = absorb(initial(), [0; 64], bytes, 0, n, 0, block_count(n));
-    serialised(h)
+    let message = Message {
+        first: [0; 64],
+        lent: bytes,
+        skip: 0,
+        len: bytes.len(),
+    };
+    message.digest()
 }
 
 // The digest of the bytes and 65 zeros after them.
 pub fn blake2s_zero_tailed(bytes: &[u8]) -> [u8; 32]
     ensures { result ≡ blake2s_of (zero_tailed bytes.now) }
 {
-    let n = bytes.len() + 65;
-    let h = absorb(initial(), [0; 64], bytes, 0, n, 0, block_count(n));
-    serialised(h)
+    let message = Message {
+        first: [0; 64],
+        lent: bytes,
+        skip: 0,
+        len: bytes.len() + 65,
+    };
+    message.digest()
 }
 
 // The digest of four bytes, the lent ones, and 65 zeros after them.
 pub fn blake2s_word_apart(first: [u8; 4], bytes: &[u8]) -> [u8; 32]
     ensures { result ≡ blake2s_of (first ++ zero_tailed bytes.now) }
 {
-    let n = bytes.len() + 69;
-    let h = absorb(
-        initial(),
-        after_word(first, bytes),
-        bytes,
-        4,
-        n,
-        0,
-        block_count(n),
-    );
-    serialised(h)
+    let message = Message {
+        first: after_word(first, bytes),
+        lent: bytes,
+        skip: 4,
+        len: bytes.len() + 69,
+    };
+    message.digest()
 }

@@ -9,7 +9,7 @@ ghost use Rattle.std.specs.Prelude.{◌≡◌, ◌+◌, ◌<◌, [], ◌∷◌, 
 ghost use Rattle.blake2s.specs.Rfc7693.{plus, rotr, G, columns, diagonals, inverting, work_vector, folded, F};
 ghost use Rattle.blake2s.specs.Words.{quad, firsts, seconds, thirds, work, block, state};
 
-use std::num::wrapping_add_u32;
+use std::ops::BitXor;
 
 // The eight words of the state between blocks.
 #[derive(Clone, Copy)]
@@ -92,79 +92,75 @@ pub struct Triples {
     pub d: Triple,
 }
 
-// x rotated to the right by n bits.
-fn rotr(x: u32, n: u32) -> u32
-    requires { (0 < n) × (n < 32) }
-    ensures { result ≡ rotr x n }
-{
-    (x >> n) ^ (x << (32 - n))
-}
-
-// The sum of three words, which wraps.
-fn sum3(a: u32, b: u32, c: u32) -> u32
-    ensures { result ≡ plus (a + b) c }
-{
-    wrapping_add_u32(wrapping_add_u32(a, b), c)
+// The eight steps of the mixing function G, on a word each or on the words of three Gs each.
+macro_rules! steps_of_g {
+    ($words:ident, $a:ident, $b:ident, $c:ident, $d:ident, $x:ident, $y:ident) => {{
+        let a1 = $a.wrapping_add($b).wrapping_add($x);
+        let d1 = ($d ^ a1).rotate_right(16);
+        let c1 = $c.wrapping_add(d1);
+        let b1 = ($b ^ c1).rotate_right(12);
+        let a2 = a1.wrapping_add(b1).wrapping_add($y);
+        let d2 = (d1 ^ a2).rotate_right(8);
+        let c2 = c1.wrapping_add(d2);
+        let b2 = (b1 ^ c2).rotate_right(7);
+        $words {
+            a: a2,
+            b: b2,
+            c: c2,
+            d: d2,
+        }
+    }};
 }
 
 // The mixing function G on the four words that it changes, and two words of the message.
 fn g(a: u32, b: u32, c: u32, d: u32, x: u32, y: u32) -> Quad
     ensures { quad result ≡ G (a ∷ b ∷ c ∷ d ∷ []) 0 1 2 3 x y }
 {
-    let a1 = sum3(a, b, x);
-    let d1 = rotr(d ^ a1, 16);
-    let c1 = wrapping_add_u32(c, d1);
-    let b1 = rotr(b ^ c1, 12);
-    let a2 = sum3(a1, b1, y);
-    let d2 = rotr(d1 ^ a2, 8);
-    let c2 = wrapping_add_u32(c1, d2);
-    let b2 = rotr(b1 ^ c2, 7);
-    Quad {
-        a: a2,
-        b: b2,
-        c: c2,
-        d: d2,
+    steps_of_g!(Quad, a, b, c, d, x, y)
+}
+
+impl Triple {
+    fn new(x: u32, y: u32, z: u32) -> Self
+        ensures { (result.x ≡ x) × (result.y ≡ y) × (result.z ≡ z) }
+    {
+        Triple { x, y, z }
+    }
+
+    // The sums in each of the three Gs, which wrap.
+    fn wrapping_add(self, other: Self) -> Self
+        ensures { (result.x ≡ plus self.x other.x) × (result.y ≡ plus self.y other.y) × (result.z ≡ plus self.z other.z) }
+    {
+        Triple {
+            x: self.x.wrapping_add(other.x),
+            y: self.y.wrapping_add(other.y),
+            z: self.z.wrapping_add(other.z),
+        }
+    }
+
+    // The word of each of the three Gs, rotated to the right by n bits.
+    fn rotate_right(self, n: u32) -> Self
+        requires { (0 < n) × (n < 32) }
+        ensures { (result.x ≡ rotr self.x n) × (result.y ≡ rotr self.y n) × (result.z ≡ rotr self.z n) }
+    {
+        Triple {
+            x: self.x.rotate_right(n),
+            y: self.y.rotate_right(n),
+            z: self.z.rotate_right(n),
+        }
     }
 }
 
-// Three words as one value.
-fn three(x: u32, y: u32, z: u32) -> Triple
-    ensures { (result.x ≡ x) × (result.y ≡ y) × (result.z ≡ z) }
-{
-    Triple { x, y, z }
-}
+impl BitXor for Triple {
+    type Output = Triple;
 
-// The sums of two words in each of three Gs.
-fn sums(a: Triple, b: Triple) -> Triple
-    ensures { (result.x ≡ plus a.x b.x) × (result.y ≡ plus a.y b.y) × (result.z ≡ plus a.z b.z) }
-{
-    Triple {
-        x: wrapping_add_u32(a.x, b.x),
-        y: wrapping_add_u32(a.y, b.y),
-        z: wrapping_add_u32(a.z, b.z),
-    }
-}
+    ghost bitxor_gives = { λ a b r. (r.x ≡ bit_xor a.x b.x) × (r.y ≡ bit_xor a.y b.y) × (r.z ≡ bit_xor a.z b.z) };
 
-// The sums of three words in each of three Gs.
-fn sums3(a: Triple, b: Triple, c: Triple) -> Triple
-    ensures { (result.x ≡ plus (a.x + b.x) c.x) × (result.y ≡ plus (a.y + b.y) c.y) × (result.z ≡ plus (a.z + b.z) c.z) }
-{
-    Triple {
-        x: sum3(a.x, b.x, c.x),
-        y: sum3(a.y, b.y, c.y),
-        z: sum3(a.z, b.z, c.z),
-    }
-}
-
-// A word of each of three Gs, xor another, rotated to the right by n bits.
-fn turned(a: Triple, b: Triple, n: u32) -> Triple
-    requires { (0 < n) × (n < 32) }
-    ensures { (result.x ≡ rotr (bit_xor a.x b.x) n) × (result.y ≡ rotr (bit_xor a.y b.y) n) × (result.z ≡ rotr (bit_xor a.z b.z) n) }
-{
-    Triple {
-        x: rotr(a.x ^ b.x, n),
-        y: rotr(a.y ^ b.y, n),
-        z: rotr(a.z ^ b.z, n),
+    fn bitxor(self, other: Self) -> Self {
+        Triple {
+            x: self.x ^ other.x,
+            y: self.y ^ other.y,
+            z: self.z ^ other.z,
+        }
     }
 }
 
@@ -172,20 +168,7 @@ fn turned(a: Triple, b: Triple, n: u32) -> Triple
 fn g3(a: Triple, b: Triple, c: Triple, d: Triple, x: Triple, y: Triple) -> Triples
     ensures { (firsts result ≡ G (a.x ∷ b.x ∷ c.x ∷ d.x ∷ []) 0 1 2 3 x.x y.x) × (seconds result ≡ G (a.y ∷ b.y ∷ c.y ∷ d.y ∷ []) 0 1 2 3 x.y y.y) × (thirds result ≡ G (a.z ∷ b.z ∷ c.z ∷ d.z ∷ []) 0 1 2 3 x.z y.z) }
 {
-    let a1 = sums3(a, b, x);
-    let d1 = turned(d, a1, 16);
-    let c1 = sums(c, d1);
-    let b1 = turned(b, c1, 12);
-    let a2 = sums3(a1, b1, y);
-    let d2 = turned(d1, a2, 8);
-    let c2 = sums(c1, d2);
-    let b2 = turned(b1, c2, 7);
-    Triples {
-        a: a2,
-        b: b2,
-        c: c2,
-        d: d2,
-    }
+    steps_of_g!(Triples, a, b, c, d, x, y)
 }
 
 // The first half of a round: G on the four columns of v. The second is by itself, and the fourth,
@@ -195,12 +178,12 @@ fn columns(v: Work, x0: u32, x1: u32, x2: u32, x3: u32, x4: u32, x5: u32, x6: u3
 {
     let q = g(v.v1, v.v5, v.v9, v.v13, x2, x3);
     let p = g3(
-        three(v.v3, v.v2, v.v0),
-        three(v.v7, v.v6, v.v4),
-        three(v.v11, v.v10, v.v8),
-        three(v.v15, v.v14, v.v12),
-        three(x6, x4, x0),
-        three(x7, x5, x1),
+        Triple::new(v.v3, v.v2, v.v0),
+        Triple::new(v.v7, v.v6, v.v4),
+        Triple::new(v.v11, v.v10, v.v8),
+        Triple::new(v.v15, v.v14, v.v12),
+        Triple::new(x6, x4, x0),
+        Triple::new(x7, x5, x1),
     );
     Work {
         v0: p.a.z,
@@ -223,7 +206,8 @@ fn columns(v: Work, x0: u32, x1: u32, x2: u32, x3: u32, x4: u32, x5: u32, x6: u3
 }
 
 // The second half of a round: G on the four diagonals of v. The first is by itself, and the others
-// are together.
+// are together. As the columns of a vector with its rows turned it makes the digest slower by more
+// than 2 percent.
 fn diagonals(
     v: Work,
     x0: u32,
@@ -239,12 +223,12 @@ fn diagonals(
 {
     let q = g(v.v0, v.v5, v.v10, v.v15, x0, x1);
     let p = g3(
-        three(v.v1, v.v2, v.v3),
-        three(v.v6, v.v7, v.v4),
-        three(v.v11, v.v8, v.v9),
-        three(v.v12, v.v13, v.v14),
-        three(x2, x4, x6),
-        three(x3, x5, x7),
+        Triple::new(v.v1, v.v2, v.v3),
+        Triple::new(v.v6, v.v7, v.v4),
+        Triple::new(v.v11, v.v8, v.v9),
+        Triple::new(v.v12, v.v13, v.v14),
+        Triple::new(x2, x4, x6),
+        Triple::new(x3, x5, x7),
     );
     Work {
         v0: q.a,

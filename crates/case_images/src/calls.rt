@@ -1,70 +1,57 @@
 // Single calls of the installer: how an answer and a record are written, whether a call changes
 // anything, and the record of a row.
 use crate::checks::inputs;
-use case_rows::rows::number;
-use case_rows::{rows, show};
-use octets::byte_at;
+use case_rows::rows::{Row, Word};
+use case_rows::show;
+use case_rows::show::Hex;
+use octets::bytes_at;
 use sessions::{Reply, Session, Turn};
-use std::io;
+use std::{fmt, io};
 
+// What a call answers.
 pub fn print_reply(rt: &impl Print, reply: Reply) -> io::Result<()> {
     match reply {
-        Reply::Begun => show::word(rt, rows::BEGUN),
-        Reply::Erased => show::word(rt, rows::ERASED),
-        Reply::Took(count) => show::number(rt, rows::TOOK, count),
-        Reply::Accepted => show::word(rt, rows::ACCEPTED),
-        Reply::Done => show::word(rt, rows::DONE),
-        Reply::Refused(number) => show::number(rt, rows::REFUSED, number as usize),
+        Reply::Begun => print!(rt; " begun"),
+        Reply::Erased => print!(rt; " erased"),
+        Reply::Took(count) => print!(rt; " took {count}"),
+        Reply::Accepted => print!(rt; " accepted"),
+        Reply::Done => print!(rt; " Done"),
+        Reply::Refused(number) => print!(rt; " refused {number}"),
         Reply::Rejected(r) => show::refusal(rt, r),
     }
 }
 
 // What a record says was done.
 pub fn print_numbers(rt: &impl Print, s: Session) -> io::Result<()> {
-    show::number(rt, rows::PAGES, s.pages)?;
-    show::number(rt, rows::TAKEN, s.taken)?;
-    show::number(rt, rows::OPERATIONS, s.operations)
+    print!(rt;
+        " pages {} taken {} operations {}",
+        s.pages, s.taken, s.operations
+    )
 }
 
+// All of a record.
 pub fn print_session(rt: &impl Print, s: Session) -> io::Result<()> {
-    let first = s.first;
-    let held = s.held;
-    show::number(rt, rows::PHASE, s.phase as usize)?;
-    show::number(rt, rows::SLOT, s.slot)?;
-    show::number(rt, rows::FILE, s.file)?;
+    print!(rt; " phase {} slot {} file {}", s.phase, s.slot, s.file)?;
     print_numbers(rt, s)?;
-    show::bytes(rt, rows::FIRST, &first)?;
-    show::bytes(rt, rows::HELD, &held)
+    print!(rt; " first {} held {}", Hex(&s.first), Hex(&s.held))
 }
 
-fn same_word(a: [u8; 4], b: [u8; 4]) -> bool {
-    octets::starts_with(&a, &b)
+// The calls that may change a slot.
+#[derive(Clone, Copy, PartialEq, Eq)]
+pub enum Call {
+    Erase,
+    Fill,
+    Close,
 }
 
-fn same_session(a: Session, b: Session) -> bool {
-    let first = a.first;
-    let held = a.held;
-    let other_first = b.first;
-    let other_held = b.held;
-    (a.phase == b.phase)
-        & (a.slot == b.slot)
-        & (a.file == b.file)
-        & (a.pages == b.pages)
-        & (a.taken == b.taken)
-        & (a.operations == b.operations)
-        & same_word(first, other_first)
-        & same_word(held, other_held)
-}
-
-// One of the calls that may change a slot.
-pub fn call(which: usize, row: &[u8], s: Session, piece: &[u8], slot: &mut [u8]) -> Turn {
-    if which == rows::ERASE {
-        return installer::erase(s, slot);
+impl fmt::Display for Call {
+    fn fmt<W: fmt::Write>(&self, f: &mut fmt::Formatter<W>) -> fmt::Result {
+        f.write_str(match self {
+            Call::Erase => "erase",
+            Call::Fill => "fill",
+            Call::Close => "close",
+        })
     }
-    if which == rows::FILL {
-        return installer::fill(s, piece, slot);
-    }
-    installer::close(s, inputs(row), slot)
 }
 
 // A call, and whether it left the record and the slot as they were.
@@ -74,35 +61,41 @@ pub struct Attempt {
     pub kept: bool,
 }
 
-pub fn tried(which: usize, row: &[u8], s: Session, piece: &[u8], slot: &mut [u8]) -> Attempt {
-    let before = blake2s::blake2s(slot);
-    let turn = call(which, row, s, piece, slot);
-    let same = octets::same_digest(before, blake2s::blake2s(slot));
-    let session = turn.session;
-    Attempt {
-        turn,
-        kept: same & same_session(s, session),
+impl Call {
+    // In the order of a session.
+    pub const ALL: [Call; 3] = [Call::Erase, Call::Fill, Call::Close];
+
+    // Makes the call on a record and a slot.
+    pub fn make(self, row: Row, s: Session, piece: &[u8], slot: &mut [u8]) -> Turn {
+        match self {
+            Call::Erase => installer::erase(s, slot),
+            Call::Fill => installer::fill(s, piece, slot),
+            Call::Close => installer::close(s, inputs(row), slot),
+        }
+    }
+
+    // Makes the call, and compares what it leaves with what was there.
+    pub fn attempt(self, row: Row, s: Session, piece: &[u8], slot: &mut [u8]) -> Attempt {
+        let before = blake2s::blake2s(slot);
+        let turn = self.make(row, s, piece, slot);
+        Attempt {
+            turn,
+            kept: blake2s::blake2s(slot) == before && s == turn.session,
+        }
     }
 }
 
-fn word_at(bytes: &[u8], at: usize) -> [u8; 4] {
-    let t = octets::rest(bytes, at);
-    [byte_at(t, 0), byte_at(t, 1), byte_at(t, 2), byte_at(t, 3)]
-}
-
 // The record of a row.
-pub fn session(row: &[u8], image: &[u8]) -> Session {
-    let taken = number(row, rows::TAKEN, 1, 0) as usize;
-    let first = word_at(image, 0);
-    let held = word_at(image, taken / 4 * 4);
+pub fn session(row: Row, image: &[u8]) -> Session {
+    let taken = row.size(Word::Taken, 0);
     Session {
-        phase: number(row, rows::PHASE, 1, 1),
-        slot: number(row, rows::SLOT, 1, 8192) as usize,
-        file: number(row, rows::FILE, 1, 1540) as usize,
-        pages: number(row, rows::PAGES, 1, 2) as usize,
+        phase: row.number(Word::Phase).unwrap_or(1),
+        slot: row.size(Word::Slot, 8192),
+        file: row.size(Word::File, 1540),
+        pages: row.size(Word::Pages, 2),
         taken,
-        operations: number(row, rows::OPERATIONS, 1, 3) as usize,
-        first,
-        held,
+        operations: row.size(Word::Operations, 3),
+        first: bytes_at(image, 0),
+        held: bytes_at(image, taken / 4 * 4),
     }
 }

@@ -2,112 +2,81 @@
 // be signed, and the choice between the two areas.
 #![tactic(auto)]
 
-use case_rows::rows::number;
-use case_rows::{build, rows, show};
+use case_rows::rows::{Row, Word};
+use case_rows::{build, show};
 use loader::AreaInputs;
-use loader::choice::Choice;
+use loader::choice::Area;
 use octets::part;
 use std::io;
 
-// Time 100, a policy of 2 of 3 and both verdicts yes, unless the row says otherwise.
-fn inputs(row: &[u8]) -> AreaInputs {
+// Time 100, a policy of 2 of 3 and both verdicts yes, unless the row says otherwise. The check of a loader
+// has a type of its own for what it is given.
+fn inputs(row: Row) -> AreaInputs {
+    let [m, n] = row.numbers(Word::Policy).unwrap_or([2, 3]);
+    let [card, internal] = row.numbers(Word::Verdicts).unwrap_or([1, 1]);
     AreaInputs {
-        time: number(row, rows::TIME, 1, 100),
-        m: number(row, rows::POLICY, 1, 2),
-        n: number(row, rows::POLICY, 2, 3),
-        card: number(row, rows::VERDICTS, 1, 1) == 1,
-        internal: number(row, rows::VERDICTS, 2, 1) == 1,
+        time: row.number(Word::Time).unwrap_or(100),
+        m,
+        n,
+        card: card == 1,
+        internal: internal == 1,
     }
 }
 
-// What a check answers, and the code that is handed back.
-fn check(rt: &impl Print, kind: usize, row: &[u8], bytes: &[u8]) -> io::Result<()> {
-    let answer = if kind == rows::CARD {
-        loader::check_card(bytes, inputs(row))
-    } else {
-        loader::check_internal(bytes, inputs(row))
-    };
-    show::answer(rt, answer)?;
-    show::part(rt, rows::CODE, loader::code(bytes, answer))
+// How many bytes of code the loader of a row has: 4 unless the row says otherwise.
+fn code_len(row: Row) -> u32 {
+    row.number(Word::Code).unwrap_or(4)
 }
 
-fn question(rt: &impl Print, bytes: &[u8]) -> io::Result<()> {
-    let reply = loader::loader_digest(bytes);
-    let outcome = reply.outcome;
-    let digest = reply.digest;
-    show::question(rt, outcome, digest)
+// How many bytes a row lends: 64 behind its loader unless it says otherwise.
+fn lent(row: Row) -> usize {
+    row.size(Word::Lent, 1088 + code_len(row) as usize)
 }
 
-// A row of one area. The bytes behind the loader are 0 on a card, otherwise 255.
-fn one(
-    rt: &impl Print,
-    kind: usize,
-    row: &[u8],
-    codelen: u32,
-    lent: usize,
-    b: &mut [u8],
-) -> io::Result<()> {
-    let x: u8 = if kind == rows::CARD { 0 } else { 255 };
-    build::area(row, codelen, lent, x, b);
-    build::edit(row, build::behind(0), b);
-    if kind == rows::QUESTION {
-        question(rt, part(b, 0, lent))
-    } else {
-        check(rt, kind, row, part(b, 0, lent))
-    }
+// The bytes that a row of one area lends: its loader, and x behind it.
+fn area<'a>(row: Row, x: u8, b: &'a mut [u8]) -> &'a [u8] {
+    let lent = lent(row);
+    build::area(row, code_len(row), lent, x, b);
+    build::edit(row, build::Family::behind(0), b);
+    part(b, 0, lent)
 }
 
-fn print_choice(rt: &impl Print, choice: Choice) -> io::Result<()> {
-    match choice {
-        Choice::Card => show::word(rt, rows::CARD),
-        Choice::Internal => show::word(rt, rows::INTERNAL),
-        Choice::Neither(r) => show::refusal(rt, r),
-    }
+// A row of the check on a card, where zeros follow the loader.
+pub fn card(rt: &impl Print, row: Row, b: &mut [u8]) -> io::Result<()> {
+    let bytes = area(row, 0, b);
+    let answer = loader::check_card(bytes, inputs(row));
+    show::checked(rt, answer, loader::code(bytes, answer))
 }
 
-// Which loader runs, and the loader.
-fn chosen<'a>(rt: &impl Print, row: &[u8], card: &'a [u8], internal: &'a [u8]) -> io::Result<()> {
-    let choice = loader::choice::choose(card, internal, inputs(row));
-    print_choice(rt, choice)?;
-    show::part(
-        rt,
-        rows::LOADER,
-        loader::choice::loader(choice, card, internal),
-    )
+// A row of the check in the internal area, where erased bytes follow the loader.
+pub fn internal(rt: &impl Print, row: Row, b: &mut [u8]) -> io::Result<()> {
+    let bytes = area(row, 255, b);
+    let answer = loader::check_internal(bytes, inputs(row));
+    show::checked(rt, answer, loader::code(bytes, answer))
 }
 
-// A row of both areas. The code of the internal loader has 4 bytes more. Of what the row changes the
-// second byte is in the internal area, and all else on the card.
-fn choose(
-    rt: &impl Print,
-    row: &[u8],
-    codelen: u32,
-    lent: usize,
-    card: &mut [u8],
-    internal: &mut [u8],
-) -> io::Result<()> {
-    let longer = rows::narrow(4 + codelen as usize);
+// A row of the digest to be signed.
+pub fn question(rt: &impl Print, row: Row, b: &mut [u8]) -> io::Result<()> {
+    show::question(rt, loader::loader_digest(area(row, 255, b)))
+}
+
+// A row of both areas: which loader runs, and the loader. The code of the internal loader has 4 bytes
+// more. Of what the row changes the second byte is in the internal area, and all else on the card.
+pub fn choose(rt: &impl Print, row: Row, card: &mut [u8], internal: &mut [u8]) -> io::Result<()> {
+    let lent = lent(row);
+    build::area(row, code_len(row), lent, 0, card);
+    build::edit_one(row, build::Family::behind(0), card);
+    let longer = code_len(row).wrapping_add(4);
     let all = 1088 + longer as usize;
-    build::area(row, codelen, lent, 0, card);
-    build::edit_one(row, build::behind(0), card);
     build::area(row, longer, all, 255, internal);
-    build::edit_byte(row, rows::AND, internal);
-    chosen(rt, row, part(card, 0, lent), part(internal, 0, all))
-}
-
-// 4 bytes of code, and 64 bytes behind the loader, unless the row says otherwise.
-pub fn answer(
-    rt: &impl Print,
-    kind: usize,
-    row: &[u8],
-    image: &mut [u8],
-    b: &mut [u8],
-) -> io::Result<()> {
-    let codelen = number(row, rows::CODE, 1, 4);
-    let lent = number(row, rows::LENT, 1, rows::narrow(1088 + codelen as usize)) as usize;
-    if kind == rows::CHOOSE {
-        choose(rt, row, codelen, lent, image, b)
-    } else {
-        one(rt, kind, row, codelen, lent, b)
+    build::edit_byte(row, Word::And, internal);
+    let card = part(card, 0, lent);
+    let internal = part(internal, 0, all);
+    let choice = loader::choice::choose(card, internal, inputs(row));
+    match choice {
+        Ok(Area::Card) => print!(rt; " card")?,
+        Ok(Area::Internal) => print!(rt; " internal")?,
+        Err(r) => show::refusal(rt, r)?,
     }
+    show::part(rt, "loader", loader::choice::loader(choice, card, internal))
 }

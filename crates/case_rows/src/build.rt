@@ -4,9 +4,7 @@
 //
 // Every function is total: what would fall past the end of the buffer is dropped, and a copy that
 // would is not made.
-use crate::rows;
-use crate::rows::number;
-use octets::put;
+use crate::rows::{Row, Word};
 
 // The hashes that images are made with.
 #[derive(Clone, Copy)]
@@ -15,10 +13,13 @@ pub enum Hash {
     Sha256,
 }
 
-pub fn digest_of(hash: Hash, bytes: &[u8]) -> [u8; 32] {
-    match hash {
-        Hash::Blake2s => blake2s::blake2s(bytes),
-        Hash::Sha256 => sha256::sha256(bytes),
+impl Hash {
+    // The hash of bytes.
+    fn digest(self, bytes: &[u8]) -> [u8; 32] {
+        match self {
+            Hash::Blake2s => blake2s::blake2s(bytes),
+            Hash::Sha256 => sha256::sha256(bytes),
+        }
     }
 }
 
@@ -31,15 +32,18 @@ pub struct Family {
     pub hash: Hash,
 }
 
-// Firmware behind a vendor header of v bytes, and loaders, whose v is 0.
-pub fn behind(v: u32) -> Family {
-    Family {
-        at: v,
-        first: rows::narrow(octets::minus(130048, v as usize)),
-        hash: Hash::Blake2s,
+impl Family {
+    // Firmware behind a vendor header of v bytes, and loaders, whose v is 0.
+    pub fn behind(v: u32) -> Self {
+        Family {
+            at: v,
+            first: 130048u32.saturating_sub(v),
+            hash: Hash::Blake2s,
+        }
     }
 }
 
+// The byte at a place, x.
 pub fn set(b: &mut [u8], at: usize, x: u8) {
     if at < b.len() {
         b[at] = x;
@@ -48,38 +52,31 @@ pub fn set(b: &mut [u8], at: usize, x: u8) {
 
 // The bytes from a place up to another, all x.
 pub fn fill(b: &mut [u8], from: usize, to: usize, x: u8) {
-    let mut i = from;
-    while i < to {
-        set(b, i, x);
-        i += 1;
+    let to = to.min(b.len());
+    if from < to {
+        b[from..to].fill(x);
     }
 }
 
 // Bytes that repeat only after 251, and are never 0 and never 255: a zero byte or an erased one that
 // is read in their stead is seen.
 pub fn pattern(b: &mut [u8], to: usize) {
-    let mut i: usize = 0;
-    while i < to {
-        set(b, i, (1 + i % 251) as u8);
-        i += 1;
+    for (i, byte) in b.iter_mut().enumerate().take(to) {
+        *byte = (1 + i % 251) as u8;
     }
 }
 
 // The bytes of another slice, from a place on.
 pub fn copy(b: &mut [u8], from: usize, bytes: &[u8]) {
-    if b.len() < from {
-        return;
+    if from <= b.len() && bytes.len() <= b.len() - from {
+        let to = from + bytes.len();
+        b[from..to].copy_from_slice(bytes);
     }
-    if b.len() - from < bytes.len() {
-        return;
-    }
-    put::put_bytes(b, from, bytes);
 }
 
-// A little-endian word.
-pub fn put_word(b: &mut [u8], at: usize, x: u32) {
-    let bytes = [put::byte0(x), put::byte1(x), put::byte2(x), put::byte3(x)];
-    copy(b, at, &bytes);
+// The lowest byte of a number.
+fn low(x: u32) -> u8 {
+    x.to_le_bytes()[0]
 }
 
 // The places of an image: where its vendor header ends, its keys, its string from and to, its picture,
@@ -95,40 +92,45 @@ pub struct Layout {
     pub end: usize,
 }
 
-pub fn layout_of(row: &[u8]) -> Layout {
-    let v = number(row, rows::V, 1, 512);
-    let keys = 32 + 32 * (number(row, rows::KEYS, 1, 2) as usize);
-    let padding = keys + 1 + number(row, rows::STRING, 1, 4) as usize;
-    let code = v as usize + 1024;
-    Layout {
-        v,
-        keys,
-        string: keys + 1,
-        padding,
-        picture: (padding + 3) / 4 * 4,
-        code,
-        end: code + number(row, rows::CODE, 1, 4) as usize,
+impl Layout {
+    // The places of a row's image: a vendor header of 512 bytes, 2 keys, and 4 bytes of string and of code,
+    // unless the row says otherwise.
+    pub fn of(row: Row) -> Self {
+        let v = row.number(Word::V).unwrap_or(512);
+        let keys = 32 + 32 * row.size(Word::Keys, 2);
+        let string = keys + 1;
+        let padding = string + row.size(Word::String, 4);
+        let code = v as usize + 1024;
+        Layout {
+            v,
+            keys,
+            string,
+            padding,
+            picture: padding.next_multiple_of(4),
+            code,
+            end: code + row.size(Word::Code, 4),
+        }
     }
 }
 
 // The fixed fields of the vendor header: no expiry, version 9.8, m of n keys, vtrust 0xFFF6.
-fn vendor_fields(row: &[u8], v: u32, b: &mut [u8]) {
-    let m = number(row, rows::M, 1, 2) % 256;
-    let n = number(row, rows::KEYS, 1, 2) % 256;
+fn vendor_fields(row: Row, v: u32, b: &mut [u8]) {
+    let m = low(row.number(Word::M).unwrap_or(2));
+    let n = low(row.number(Word::Keys).unwrap_or(2));
     copy(
         b,
         0,
         b"TRZV\0\0\0\0\0\0\0\0\0\0\0\0\xF6\xFF\0\0\0\0\0\0\0\0\0\0\0\0\0\0",
     );
-    put_word(b, 4, v);
-    put_word(b, 12, 0x0809 + 65536 * m + 16777216 * n);
+    copy(b, 4, &v.to_le_bytes());
+    copy(b, 12, &[9, 8, m, n]);
 }
 
 // What is no pattern behind them: the string's length, its padding, and a mask of the first two keys.
-fn vendor_areas(row: &[u8], p: Layout, b: &mut [u8]) {
-    set(b, p.keys, put::byte0(number(row, rows::STRING, 1, 4)));
+fn vendor_areas(row: Row, p: Layout, b: &mut [u8]) {
+    set(b, p.keys, low(row.number(Word::String).unwrap_or(4)));
     fill(b, p.padding, p.picture, 0);
-    set(b, octets::minus(p.code, 1089), 3);
+    set(b, p.code.saturating_sub(1089), 3);
 }
 
 // What all headers in front of code start with, from a place on: a magic, no expiry, so many bytes of
@@ -141,7 +143,7 @@ pub fn code_header(magic: &[u8], codelen: u32, at: u32, b: &mut [u8]) {
         b"\0\0\0\0\x00\x04\0\0\0\0\0\0\0\0\0\0\x01\x02\x03\x04\x05\x06\x07\x08",
     );
     copy(b, from, magic);
-    put_word(b, from + 12, codelen);
+    copy(b, from + 12, &codelen.to_le_bytes());
     fill(b, from + 24, from + 544, 0);
 }
 
@@ -159,94 +161,80 @@ fn put_hash(family: Family, end: usize, k: u32, b: &mut [u8]) {
     let at = family.at as usize;
     let code = at + 1024;
     let full = code + family.first as usize + 131072 * (k as usize);
-    let from = if k == 0 {
-        code
-    } else {
-        octets::minus(full, 131072)
-    };
-    let to = octets::minus(end, octets::minus(end, full));
+    let from = if k == 0 { code } else { full - 131072 };
+    let to = full.min(end);
     if from < to {
-        let hash = family.hash;
-        let digest = digest_of(hash, octets::part(b, from, to));
+        let digest = family.hash.digest(octets::part(b, from, to));
         copy(b, at + 32 + 32 * (k as usize), &digest);
     }
 }
 
 // The first hashes, so many as the row says, otherwise all.
-pub fn hashes(row: &[u8], family: Family, end: usize, b: &mut [u8]) {
-    let count = number(row, rows::HASHED, 1, 16);
-    let mut k: u32 = 0;
-    while k < count {
+pub fn hashes(row: Row, family: Family, end: usize, b: &mut [u8]) {
+    for k in 0..row.number(Word::Hashed).unwrap_or(16) {
         put_hash(family, end, k, b);
-        k += 1;
     }
 }
 
 // A byte that the row changes.
-pub fn edit_byte(row: &[u8], word: usize, b: &mut [u8]) {
-    let at = number(row, word, 1, 4294967295) as usize;
-    set(b, at, put::byte0(number(row, word, 2, 0)));
+pub fn edit_byte(row: Row, word: Word, b: &mut [u8]) {
+    if let Some(edit) = row.numbers::<2>(word) {
+        let [at, x] = edit;
+        set(b, at as usize, low(x));
+    }
 }
 
-// A hash that becomes the digest of nothing.
-fn edit_hash(row: &[u8], family: Family, b: &mut [u8]) {
-    let at = family.at as usize + 32 * (number(row, rows::NOTHING, 1, 4294967295) as usize);
-    let hash = family.hash;
-    let digest = digest_of(hash, b"");
-    copy(b, at, &digest);
-}
-
-// A hash, a word and a byte that the row changes.
-pub fn edit_one(row: &[u8], family: Family, b: &mut [u8]) {
-    edit_hash(row, family, b);
-    let at = number(row, rows::WORD, 1, 4294967295) as usize;
-    put_word(b, at, number(row, rows::WORD, 2, 0));
-    edit_byte(row, rows::BYTE, b);
+// A hash, which becomes the digest of nothing, a word and a byte that the row changes.
+pub fn edit_one(row: Row, family: Family, b: &mut [u8]) {
+    if let Some(k) = row.number(Word::Nothing) {
+        let at = family.at as usize + 32 * (k as usize);
+        copy(b, at, &family.hash.digest(b""));
+    }
+    if let Some(edit) = row.numbers::<2>(Word::Word) {
+        let [at, x] = edit;
+        copy(b, at as usize, &x.to_le_bytes());
+    }
+    edit_byte(row, Word::Byte, b);
 }
 
 // All that the row changes: these and a second byte.
-pub fn edit(row: &[u8], family: Family, b: &mut [u8]) {
+pub fn edit(row: Row, family: Family, b: &mut [u8]) {
     edit_one(row, family, b);
-    edit_byte(row, rows::AND, b);
-}
-
-fn headers(row: &[u8], p: Layout, b: &mut [u8]) {
-    vendor_fields(row, p.v, b);
-    vendor_areas(row, p, b);
-    masked_header(b"TRZF", number(row, rows::CODE, 1, 4), p.v, b);
-    hashes(row, behind(p.v), p.end, b);
+    edit_byte(row, Word::And, b);
 }
 
 // How many bytes a row lends: so many as it says, otherwise those of the image, and not fewer than
 // `least`.
-fn lent_of(row: &[u8], end: usize, least: usize) -> usize {
-    let more = std::num::wrapping_add_usize(end, octets::minus(least, end));
-    number(row, rows::LENT, 1, rows::narrow(more)) as usize
+fn lent_of(row: Row, end: usize, least: usize) -> usize {
+    row.size(Word::Lent, end.max(least))
 }
 
 // The image of a row, at the start of a buffer. The bytes behind it are erased, a page or as many as
 // are lent.
-pub fn build(row: &[u8], b: &mut [u8]) {
-    let p = layout_of(row);
+pub fn build(row: Row, b: &mut [u8]) {
+    let p = Layout::of(row);
+    let family = Family::behind(p.v);
     pattern(b, p.end);
-    headers(row, p, b);
+    vendor_fields(row, p.v, b);
+    vendor_areas(row, p, b);
+    masked_header(b"TRZF", row.number(Word::Code).unwrap_or(4), p.v, b);
+    hashes(row, family, p.end, b);
     fill(b, p.end, 8192, 255);
     fill(b, p.end, lent_of(row, p.end, 8192), 255);
-    edit(row, behind(p.v), b);
+    edit(row, family, b);
 }
 
 // A loader with so many bytes of code, at the start of a buffer, and x behind it as far as bytes are
 // lent. Its header is laid out like the firmware header.
-pub fn area(row: &[u8], codelen: u32, lent: usize, x: u8, b: &mut [u8]) {
+pub fn area(row: Row, codelen: u32, lent: usize, x: u8, b: &mut [u8]) {
     let end = 1024 + codelen as usize;
     pattern(b, end);
     masked_header(b"TRZB", codelen, 0, b);
-    hashes(row, behind(0), end, b);
+    hashes(row, Family::behind(0), end, b);
     fill(b, end, lent, x);
 }
 
 // What a row lends of the buffer.
-pub fn lent<'a>(row: &[u8], least: usize, b: &'a [u8]) -> &'a [u8] {
-    let p = layout_of(row);
-    octets::part(b, 0, lent_of(row, p.end, least))
+pub fn lent<'a>(row: Row, least: usize, b: &'a [u8]) -> &'a [u8] {
+    octets::part(b, 0, lent_of(row, Layout::of(row).end, least))
 }

@@ -1,87 +1,79 @@
-// What the program writes: words and numbers, each with a space before it.
-use crate::rows;
-use header::{Outcome, Refusal};
-use image::{Answer, Image, Version};
-use std::io;
-
-pub fn text(rt: &impl Print, text: &[u8]) -> io::Result<()> {
-    rt.write_all(text)
-}
-
-pub fn word(rt: &impl Print, word: usize) -> io::Result<()> {
-    text(rt, b" ")?;
-    text(rt, rows::nth(&rows::WORDS, word))
-}
-
-pub fn number(rt: &impl Print, label: usize, number: usize) -> io::Result<()> {
-    word(rt, label)?;
-    print!(rt; " {number}")
-}
-
-fn byte(rt: &impl Print, x: u8) -> io::Result<()> {
-    print!(rt; "{x:02x}")
-}
+// What the program writes: words, each with its numbers behind it, and a space before each of them.
+use header::Refusal;
+use image::{Answer, Version};
+use std::{fmt, io};
 
 // Bytes in their order, two digits each.
-pub fn bytes(rt: &impl Print, label: usize, bytes: &[u8]) -> io::Result<()> {
-    word(rt, label)?;
-    text(rt, b" ")?;
-    let mut i: usize = 0;
-    while i < bytes.len() {
-        byte(rt, bytes[i])?;
-        i += 1;
+#[derive(Clone, Copy)]
+pub struct Hex<'a>(pub &'a [u8]);
+
+impl fmt::Display for Hex<'_> {
+    fn fmt<W: fmt::Write>(&self, f: &mut fmt::Formatter<W>) -> fmt::Result {
+        for byte in self.0 {
+            write!(f, "{byte:02x}")?;
+        }
+        Ok(())
     }
-    Ok(())
 }
 
-// The digest of bytes.
-pub fn digest(rt: &impl Print, label: usize, lent: &[u8]) -> io::Result<()> {
-    let digest = blake2s::blake2s(lent);
-    bytes(rt, label, &digest)
+// A version, with dots between its numbers.
+#[derive(Clone, Copy)]
+struct Dotted(Version);
+
+impl fmt::Display for Dotted {
+    fn fmt<W: fmt::Write>(&self, f: &mut fmt::Formatter<W>) -> fmt::Result {
+        let Version {
+            major,
+            minor,
+            patch,
+            build,
+        } = self.0;
+        write!(f, "{major}.{minor}.{patch}.{build}")
+    }
+}
+
+// The digest of bytes, behind a word.
+pub fn digest(rt: &impl Print, word: &str, bytes: &[u8]) -> io::Result<()> {
+    print!(rt; " {word} {}", Hex(&blake2s::blake2s(bytes)))
 }
 
 // How many bytes a part has, and their digest.
-pub fn part(rt: &impl Print, label: usize, bytes: &[u8]) -> io::Result<()> {
-    number(rt, label, bytes.len())?;
-    digest(rt, rows::BYTE, bytes)
+pub fn part(rt: &impl Print, word: &str, bytes: &[u8]) -> io::Result<()> {
+    print!(rt; " {word} {}", bytes.len())?;
+    digest(rt, "byte", bytes)
 }
 
-pub fn refusal(rt: &impl Print, r: Refusal) -> io::Result<()> {
-    number(rt, rows::REFUSED, r.number as usize)?;
-    number(rt, rows::PART, r.part as usize)?;
-    number(rt, rows::CHUNK, r.chunk as usize)
+// A refusal: its number, its part and its chunk.
+pub fn refusal(rt: &impl Print, refusal: Refusal) -> io::Result<()> {
+    let Refusal {
+        number,
+        part,
+        chunk,
+    } = refusal;
+    print!(rt; " refused {number} part {part} chunk {chunk}")
 }
 
 // The digest to be signed, or the refusal in its place.
-pub fn question(rt: &impl Print, outcome: Outcome, digest: [u8; 32]) -> io::Result<()> {
-    match outcome {
-        Outcome::Pass => bytes(rt, rows::BYTE, &digest),
-        Outcome::Refused(r) => refusal(rt, r),
+pub fn question(rt: &impl Print, digest: Result<[u8; 32], Refusal>) -> io::Result<()> {
+    match digest {
+        Ok(digest) => print!(rt; " byte {}", Hex(&digest)),
+        Err(r) => refusal(rt, r),
     }
 }
 
-fn dotted(rt: &impl Print, x: u8) -> io::Result<()> {
-    print!(rt; ".{x}")
-}
-
-fn version(rt: &impl Print, label: usize, v: Version) -> io::Result<()> {
-    number(rt, label, v.major as usize)?;
-    dotted(rt, v.minor)?;
-    dotted(rt, v.patch)?;
-    dotted(rt, v.build)
-}
-
-fn accepted(rt: &impl Print, i: Image) -> io::Result<()> {
-    word(rt, rows::ACCEPTED)?;
-    number(rt, rows::V, i.v as usize)?;
-    number(rt, rows::CODE, i.codelen as usize)?;
-    version(rt, rows::VERSION, i.version)?;
-    version(rt, rows::FIX, i.fix)
-}
-
+// What a check answers.
 pub fn answer(rt: &impl Print, answer: Answer) -> io::Result<()> {
     match answer {
-        Answer::Accepted(i) => accepted(rt, i),
-        Answer::Rejected(r) => refusal(rt, r),
+        Ok(i) => {
+            print!(rt; " accepted v {} code {}", i.v, i.codelen)?;
+            print!(rt; " version {} fix {}", Dotted(i.version), Dotted(i.fix))
+        }
+        Err(r) => refusal(rt, r),
     }
+}
+
+// What a check answers, and the code that is handed back.
+pub fn checked(rt: &impl Print, checked: Answer, code: &[u8]) -> io::Result<()> {
+    answer(rt, checked)?;
+    part(rt, "code", code)
 }

@@ -1,62 +1,64 @@
 // Rows of whole installs: begin, every erase, pieces of one length or of all, and close, with refused
 // calls between all others where a row asks for them. Then what the slot holds, and what the boot check
 // says of it.
-use case_images::calls;
+use case_images::calls::{Call, print_numbers, print_reply};
 use case_images::checks::inputs;
-use case_rows::rows::number;
-use case_rows::{rows, show};
+use case_rows::rows::{Row, Word};
+use case_rows::show;
+use octets::{part, rest};
 use sessions::{Reply, Session, Turn};
 use std::io;
-use std::num::wrapping_add_usize;
-
-fn is_19(reply: Reply) -> bool {
-    match reply {
-        Reply::Refused(number) => number == 19,
-        _ => false,
-    }
-}
 
 // The call whose turn it is.
-fn due(s: Session) -> usize {
+fn due(s: Session) -> Call {
     if s.pages < s.slot / 4096 {
-        return rows::ERASE;
-    }
-    if s.taken < s.file {
-        rows::FILL
+        Call::Erase
+    } else if s.taken < s.file {
+        Call::Fill
     } else {
-        rows::CLOSE
+        Call::Close
     }
 }
 
 // Whether a call is refused with 19 and changes nothing, on a slot that is so many bytes shorter. The
 // call whose turn it is would not be, and is not tried.
-fn refused(which: usize, shorter: usize, row: &[u8], s: Session, slot: &mut [u8]) -> bool {
-    if (shorter == 0) & (s.phase == 1) & (which == due(s)) {
+fn is_refused(call: Call, shorter: usize, row: Row, s: Session, slot: &mut [u8]) -> bool {
+    if shorter == 0 && s.phase == 1 && call == due(s) {
         return false;
     }
-    let from: usize = 0;
-    let n = octets::minus(slot.len(), shorter);
-    let t = calls::tried(which, row, s, b"piece", &mut slot[from..n]);
-    let turn = t.turn;
-    let reply = turn.reply;
-    t.kept & is_19(reply)
+    let len = slot.len().saturating_sub(shorter);
+    let attempt = call.attempt(row, s, b"piece", &mut slot[..len]);
+    attempt.kept && matches!(attempt.turn.reply, Reply::Refused(19))
 }
 
-// How many calls out of turn, and on a slot that is a word shorter, are refused; none is tried where
-// the row does not ask for it.
-fn all_refused(kind: usize, row: &[u8], s: Session, slot: &mut [u8]) -> usize {
-    if kind != rows::CROSSED {
-        return 0;
+// The calls that are tried between two others: each on the whole slot, and on one that is a word shorter.
+const TRIES: [(Call, usize); 6] = [
+    (Call::Erase, 0),
+    (Call::Erase, 4),
+    (Call::Fill, 0),
+    (Call::Fill, 4),
+    (Call::Close, 0),
+    (Call::Close, 4),
+];
+
+// What stands between the calls of an install.
+#[derive(Clone, Copy)]
+pub enum Between {
+    Nothing,
+    Refused,
+}
+
+impl Between {
+    // Makes the calls that stand there, and tells how many of them are refused.
+    fn refused(self, row: Row, s: Session, slot: &mut [u8]) -> usize {
+        match self {
+            Between::Nothing => 0,
+            Between::Refused => TRIES
+                .iter()
+                .filter(|(call, shorter)| is_refused(*call, *shorter, row, s, slot))
+                .count(),
+        }
     }
-    let mut total: usize = 0;
-    let mut which = rows::ERASE;
-    while which <= rows::CLOSE {
-        let here = refused(which, 0, row, s, slot);
-        let there = refused(which, 4, row, s, slot);
-        total = wrapping_add_usize(wrapping_add_usize(total, here as usize), there as usize);
-        which += 1;
-    }
-    total
 }
 
 // A piece has so many bytes as the row says, or, for 0, from 0 to 8 in turn.
@@ -65,62 +67,50 @@ fn length(by: usize, calls: usize) -> usize {
 }
 
 // The next call, with so many of the next bytes.
-fn step(row: &[u8], length: usize, s: Session, file: &[u8], slot: &mut [u8]) -> Turn {
-    let piece = octets::part(octets::rest(file, s.taken), 0, length);
-    calls::call(due(s), row, s, piece, slot)
+fn step(row: Row, length: usize, s: Session, file: &[u8], slot: &mut [u8]) -> Turn {
+    due(s).make(row, s, part(rest(file, s.taken), 0, length), slot)
 }
 
-// What an install came to.
-fn print_end(rt: &impl Print, turn: Turn, calls: usize, between: usize) -> io::Result<()> {
-    let s = turn.session;
-    let reply = turn.reply;
-    calls::print_numbers(rt, s)?;
-    show::number(rt, rows::CALLS, calls)?;
-    show::number(rt, rows::BETWEEN, between)?;
-    calls::print_reply(rt, reply)
-}
-
-// All calls up to the end of the session, at most three for each byte of the file.
-fn run(rt: &impl Print, kind: usize, row: &[u8], file: &[u8], slot: &mut [u8]) -> io::Result<()> {
-    let by = number(row, rows::BY, 1, 4) as usize;
-    let limit = 3 * (file.len() % 4294967296);
+// All calls up to the end of the session, at most three for each byte of the file, and what the install
+// came to.
+fn run(
+    rt: &impl Print,
+    between: Between,
+    row: Row,
+    file: &[u8],
+    slot: &mut [u8],
+) -> io::Result<()> {
+    let by = row.size(Word::By, 4);
     let mut turn = installer::begin(slot, file.len());
-    let mut between: usize = 0;
-    let mut calls: usize = 0;
-    while calls < limit {
+    let mut refused: usize = 0;
+    for calls in 0..file.len().saturating_mul(3) {
         let session = turn.session;
-        between = wrapping_add_usize(between, all_refused(kind, row, session, slot));
+        refused = refused.wrapping_add(between.refused(row, session, slot));
         if session.phase != 1 {
-            return print_end(rt, turn, calls, between);
+            print_numbers(rt, session)?;
+            print!(rt; " calls {calls} between {refused}")?;
+            return print_reply(rt, turn.reply);
         }
         turn = step(row, length(by, calls), session, file, slot);
-        calls += 1;
     }
     Ok(())
 }
 
-// A whole install in a slot that held zeros.
-fn whole(rt: &impl Print, kind: usize, row: &[u8], file: &[u8], slot: &mut [u8]) -> io::Result<()> {
-    let len = slot.len();
-    case_rows::build::fill(slot, 0, len, 0);
-    run(rt, kind, row, file, slot)?;
-    show::digest(rt, rows::SLOT, slot)?;
-    show::answer(rt, image::check_slot(slot, inputs(row)))
-}
-
-// A row of an install: the lengths of the slot, of the file and of its pieces.
+// A row of an install, in a slot that held zeros: the lengths of the slot, if there are so many bytes,
+// of the file and of its pieces.
 pub fn install(
     rt: &impl Print,
-    kind: usize,
-    row: &[u8],
+    between: Between,
+    row: Row,
     image: &[u8],
     b: &mut [u8],
 ) -> io::Result<()> {
-    let file = octets::part(image, 0, number(row, rows::FILE, 1, 1540) as usize);
-    let from: usize = 0;
-    let len = number(row, rows::SLOT, 1, 8192) as usize;
-    if len <= b.len() {
-        whole(rt, kind, row, file, &mut b[from..len])?;
-    }
-    Ok(())
+    let Some(slot) = b.get_mut(..row.size(Word::Slot, 8192)) else {
+        return Ok(());
+    };
+    let file = part(image, 0, row.size(Word::File, 1540));
+    slot.fill(0);
+    run(rt, between, row, file, slot)?;
+    show::digest(rt, "slot", slot)?;
+    show::answer(rt, image::check_slot(slot, inputs(row)))
 }

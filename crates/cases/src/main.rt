@@ -7,71 +7,73 @@ mod installs;
 mod records;
 
 use case_images::{checks, writers};
-use case_rows::{build, rows, show};
+use case_older::{Alone, LEGACY, Pair};
+use case_rows::build;
+use case_rows::rows::{Kind, Row};
+use installs::{Between, install};
 use reading::read_full;
 use std::io;
 
 // The answer to a row, by what its first word says.
-fn answer(
-    rt: &impl Print,
-    kind: usize,
-    row: &[u8],
-    image: &mut [u8],
-    b: &mut [u8],
-) -> io::Result<()> {
+fn answer(rt: &impl Print, row: Row, image: &mut [u8], b: &mut [u8]) -> io::Result<()> {
+    let Some(kind) = row.kind() else {
+        return print!(rt; " unknown");
+    };
     match kind {
-        rows::FILE..=rows::TRUST => checks::answer(rt, kind, row, image),
-        rows::ROUNDTRIP..=rows::FIRMWARE => writers::answer(rt, kind, row, image, b),
-        rows::BEGIN => records::begin(rt, row, b),
-        rows::RECORD => records::record(rt, row, image, b),
-        rows::INSTALL..=rows::CROSSED => installs::install(rt, kind, row, image, b),
-        rows::CARD..=rows::CHOOSE => case_loaders::answer(rt, kind, row, image, b),
-        rows::V2FILE..=rows::LEGACYQUESTION => case_older::answer(rt, kind, row, b),
-        _ => show::word(rt, rows::UNKNOWN),
+        Kind::File => checks::file(rt, row, image),
+        Kind::Slot => checks::slot(rt, row, image),
+        Kind::Parts => checks::parts(rt, row, image),
+        Kind::Digests => checks::digests(rt, row, image),
+        Kind::Trust => checks::trust(rt, row),
+        Kind::RoundTrip => writers::round_trip(rt, row, image, b),
+        Kind::Vendor => writers::vendor(rt, row, image, b),
+        Kind::Firmware => writers::firmware(rt, row, image, b),
+        Kind::Begin => records::begin(rt, row, b),
+        Kind::Record => records::record(rt, row, image, b),
+        Kind::Install => install(rt, Between::Nothing, row, image, b),
+        Kind::Crossed => install(rt, Between::Refused, row, image, b),
+        Kind::Card => case_loaders::card(rt, row, b),
+        Kind::Internal => case_loaders::internal(rt, row, b),
+        Kind::Question => case_loaders::question(rt, row, b),
+        Kind::Choose => case_loaders::choose(rt, row, image, b),
+        Kind::V2File => case_older::file::<Alone>(rt, row, 0, b),
+        Kind::V2Slot => case_older::slot::<Alone>(rt, row, 0, b),
+        Kind::V2Question => case_older::question::<Alone>(rt, row, 0, b),
+        Kind::PairFile => case_older::file::<Pair>(rt, row, LEGACY, b),
+        Kind::PairSlot => case_older::slot::<Pair>(rt, row, LEGACY, b),
+        Kind::PairQuestion => case_older::question::<Pair>(rt, row, LEGACY, b),
+        Kind::LegacyQuestion => case_older::legacy_question(rt, row, b),
     }
 }
 
-// A blank line or one that starts with `#` is a comment.
-fn row(rt: &impl Print, row: &[u8], image: &mut [u8], b: &mut [u8]) -> io::Result<()> {
-    if (row.len() == 0) | (octets::byte_at(row, 0) == b'#') {
-        return Ok(());
+// Writes a line, and the answer behind it, unless it is blank or starts with `#`.
+fn line(rt: &impl Print, text: &[u8], image: &mut [u8], b: &mut [u8]) -> io::Result<()> {
+    rt.write_all(text)?;
+    if !matches!(text.first(), None | Some(b'#')) {
+        let row = Row { text };
+        print!(rt; ":")?;
+        build::build(row, image);
+        answer(rt, row, image, b)?;
     }
-    show::text(rt, b":")?;
-    build::build(row, image);
-    answer(rt, rows::kind(row), row, image, b)
+    println!(rt)
 }
 
-// The line that starts at a place, if one does.
-fn line_at(
-    rt: &impl Print,
-    text: &[u8],
-    at: usize,
-    image: &mut [u8],
-    b: &mut [u8],
-) -> io::Result<()> {
-    if !rows::starts(text, at, b'\n') {
-        return Ok(());
-    }
-    let line = rows::item(text, at, b'\n');
-    show::text(rt, line)?;
-    row(rt, line, image, b)?;
-    show::text(rt, b"\n")
-}
-
+// Writes each line of a text. What follows the last line end is a line too, unless it is empty.
 fn lines(rt: &impl Print, text: &[u8], image: &mut [u8], b: &mut [u8]) -> io::Result<()> {
-    let mut i: usize = 0;
-    while i < text.len() {
-        line_at(rt, text, i, image, b)?;
-        i += 1;
+    for text in text.split_inclusive(|byte| *byte == b'\n') {
+        line(rt, text.strip_suffix(b"\n").unwrap_or(text), image, b)?;
     }
     Ok(())
 }
 
 // The largest image has 2,097,152 bytes, and a slot of a page more is refused.
+const BUFFER: usize = 2101248;
+
+// At most 65,536 bytes of text are read, and what is behind them is not.
 fn main(rt: HostRuntime) -> io::Result<()> {
     let mut text = [0u8; 65536];
     let n = read_full(&mut rt.stdin(), &mut text)?;
-    let mut image = [0u8; 2101248];
-    let mut b = [0u8; 2101248];
+    let mut image = [0u8; BUFFER];
+    let mut b = [0u8; BUFFER];
     lines(&rt, &text[..n], &mut image, &mut b)
 }

@@ -1,95 +1,67 @@
 // Rows of single calls of the installer: begin, and every other call on a record, also on one that is
 // inconsistent. The slot holds what the record says: the words stored so far, and erased bytes.
-use case_images::calls::{print_reply, print_session, session};
+use case_images::calls::{Call, print_reply, print_session, session};
 use case_images::checks::print_digest;
-use case_rows::rows::number;
-use case_rows::{rows, show};
+use case_rows::rows::{Row, Word};
+use case_rows::{build, show};
+use octets::{part, rest};
 use std::io;
 
 // The slot of a row. Where the row names bytes they are 0, so that their word is not erased.
-fn prepare(row: &[u8], image: &[u8], slot: &mut [u8]) {
-    let taken = number(row, rows::TAKEN, 1, 0) as usize;
-    let len = slot.len();
-    case_rows::build::fill(slot, 0, len, 255);
-    case_rows::build::copy(slot, 4, octets::part(image, 4, taken / 4 * 4));
-    let from = number(row, rows::DIRTY, 1, 0) as usize;
-    case_rows::build::fill(slot, from, number(row, rows::DIRTY, 2, 0) as usize, 0);
+fn prepare(row: Row, image: &[u8], slot: &mut [u8]) {
+    slot.fill(255);
+    build::copy(slot, 4, part(image, 4, row.size(Word::Taken, 0) / 4 * 4));
+    if let Some(dirty) = row.numbers::<2>(Word::Dirty) {
+        let [from, to] = dirty;
+        build::fill(slot, from as usize, to as usize, 0);
+    }
 }
 
 // The next bytes of the image.
-fn piece<'a>(row: &[u8], image: &'a [u8]) -> &'a [u8] {
-    let next = octets::rest(image, number(row, rows::TAKEN, 1, 0) as usize);
-    octets::part(next, 0, number(row, rows::PIECE, 1, 4) as usize)
+fn piece<'a>(row: Row, image: &'a [u8]) -> &'a [u8] {
+    let next = rest(image, row.size(Word::Taken, 0));
+    part(next, 0, row.size(Word::Piece, 4))
 }
 
-// What a call answers, and the record and the slot that it leaves.
-fn change(
-    rt: &impl Print,
-    which: usize,
-    row: &[u8],
-    image: &[u8],
-    slot: &mut [u8],
-) -> io::Result<()> {
-    let t = case_images::calls::tried(which, row, session(row, image), piece(row, image), slot);
-    let turn = t.turn;
-    let session = turn.session;
-    let reply = turn.reply;
-    print_reply(rt, reply)?;
-    if t.kept {
-        return show::word(rt, rows::KEPT);
-    }
-    print_session(rt, session)?;
-    show::digest(rt, rows::BYTE, slot)
-}
-
-fn ask(rt: &impl Print, row: &[u8], image: &[u8], slot: &[u8]) -> io::Result<()> {
-    let asked = installer::ask(session(row, image), slot);
-    print_digest(rt, rows::VENDOR, asked.vendor)?;
-    print_digest(rt, rows::FIRMWARE, asked.firmware)
-}
-
-// One call on the record of a row, on a line of its own.
-fn turn(
-    rt: &impl Print,
-    which: usize,
-    row: &[u8],
-    image: &[u8],
-    slot: &mut [u8],
-) -> io::Result<()> {
-    show::text(rt, b"\n ")?;
-    show::word(rt, which)?;
+// A call on the record of a row, on a line of its own: what it answers, and the record and the slot
+// that it leaves.
+fn change(rt: &impl Print, call: Call, row: Row, image: &[u8], slot: &mut [u8]) -> io::Result<()> {
+    print!(rt; "\n  {call}")?;
     prepare(row, image, slot);
-    if which == rows::ASK {
-        return ask(rt, row, image, slot);
+    let attempt = call.attempt(row, session(row, image), piece(row, image), slot);
+    print_reply(rt, attempt.turn.reply)?;
+    if attempt.kept {
+        return print!(rt; " kept");
     }
-    change(rt, which, row, image, slot)
+    print_session(rt, attempt.turn.session)?;
+    show::digest(rt, "byte", slot)
 }
 
-fn turns(rt: &impl Print, row: &[u8], image: &[u8], slot: &mut [u8]) -> io::Result<()> {
-    let mut which = rows::ERASE;
-    while which <= rows::ASK {
-        turn(rt, which, row, image, slot)?;
-        which += 1;
-    }
-    Ok(())
+// Asks for the digests of the record of a row, on a line of its own.
+fn ask(rt: &impl Print, row: Row, image: &[u8], slot: &mut [u8]) -> io::Result<()> {
+    print!(rt; "\n  ask")?;
+    prepare(row, image, slot);
+    let asked = installer::ask(session(row, image), slot);
+    print_digest(rt, "vendor", asked.vendor)?;
+    print_digest(rt, "firmware", asked.firmware)
 }
 
-// A row of a record: every call on it, with so many bytes of slot as the row says.
-pub fn record(rt: &impl Print, row: &[u8], image: &[u8], b: &mut [u8]) -> io::Result<()> {
-    let from: usize = 0;
-    let lent = number(row, rows::LENT, 1, 8192) as usize;
-    if lent <= b.len() {
-        turns(rt, row, octets::part(image, 0, 8192), &mut b[from..lent])?;
+// A row of a record: every call on it, with so many bytes of slot as the row says, if there are so many.
+pub fn record(rt: &impl Print, row: Row, image: &[u8], b: &mut [u8]) -> io::Result<()> {
+    let Some(slot) = b.get_mut(..row.size(Word::Lent, 8192)) else {
+        return Ok(());
+    };
+    let image = part(image, 0, 8192);
+    for call in Call::ALL {
+        change(rt, call, row, image, slot)?;
     }
-    Ok(())
+    ask(rt, row, image, slot)
 }
 
 // A row of begin: the length of the slot that is lent, and the file's.
-pub fn begin(rt: &impl Print, row: &[u8], b: &[u8]) -> io::Result<()> {
-    let slot = octets::part(b, 0, number(row, rows::LENT, 1, 8192) as usize);
-    let turn = installer::begin(slot, number(row, rows::FILE, 1, 1540) as usize);
-    let session = turn.session;
-    let reply = turn.reply;
-    print_reply(rt, reply)?;
-    print_session(rt, session)
+pub fn begin(rt: &impl Print, row: Row, b: &[u8]) -> io::Result<()> {
+    let slot = part(b, 0, row.size(Word::Lent, 8192));
+    let turn = installer::begin(slot, row.size(Word::File, 1540));
+    print_reply(rt, turn.reply)?;
+    print_session(rt, turn.session)
 }

@@ -9,3 +9,10 @@
 pub mod layout;
 pub mod tests;
 pub mod theorems;
+
+// The header that starts at an offset of the bytes.
+#[derive(Clone, Copy)]
+pub struct CodeHeader<'a> {
+    pub bytes: &'a [u8],
+    pub at: u32,
+}

@@ -6,9 +6,8 @@ use mathlib.Core.List.{List, [], ◌∷◌, ◌++◌, append-nil}
 use Prim.Native.Nat.{ℕ, ◌+◌, ◌*◌, ◌≤◌, ◌<◌}
 use native.Mathlib.Omega.{arith}
 use lib.Dec.{eqb}
-use lib.ListN.{length, take, drop, get_or, set, length-drop, take-append-drop, drop_of_length-le, length-replicate, replicate-append-replicate, get_or-eq_default}
-use lib.Seq.{sets-eq, drop-drop, drop-append-add, take_all}
-use borrow.Author.Fill.{fill_more}
+use lib.ListN.{length, take, drop, replicate, get_or, length-drop, take-append-drop, drop_of_length-le, length-replicate, replicate-append-replicate, get_or-eq_default}
+use lib.Seq.{drop-drop, drop-append-add, take_all, length-take-le}
 use borrow.Author.Tests.{le-leb, lt-leb}
 use Rattle.flash.specs.Flash.{erased_bytes, first_page_erased, first_word_stored, starts_erased}
 use Rattle.flash.specs.Operation.{word_of, bytes_of, performed}
@@ -18,11 +17,6 @@ use Rattle.flash.specs.declared.Operation.TheVariants.{ErasePage, StoreWord}
 pub erased_none : (d : List ℕ) → d ≡ erased_bytes 0 ++ drop 0 d
 unfolding erased_bytes
 erased_none d = refl
-
--- 255 stored after n erased bytes makes them n + 1
-pub erased_more : (n : ℕ) (d : List ℕ) → n < length d → set (erased_bytes n ++ drop n d) n 255 ≡ erased_bytes (n + 1) ++ drop (n + 1) d
-unfolding erased_bytes
-erased_more n d l = fill_more n 255 d l
 
 pub length_erased : (n : ℕ) → length (erased_bytes n) ≡ n
 unfolding erased_bytes
@@ -53,18 +47,16 @@ four_elements (a ∷ b ∷ c ∷ []) e = absurd (omega arith)
 four_elements (a ∷ b ∷ c ∷ d ∷ []) e = refl
 four_elements (a ∷ b ∷ c ∷ d ∷ x ∷ r) e = absurd (omega arith)
 
--- four bytes stored one after the other are the word in front
-pub word_stored_lem : (w d : List ℕ) → length w ≡ 4 → 4 ≤ length d
-    → set (set (set (set d 0 (get_or w 0 0)) 1 (get_or w 1 0)) 2 (get_or w 2 0)) 3 (get_or w 3 0) ≡ w ++ drop 4 d
-word_stored_lem w d e h =
-    let bytes : List ℕ = get_or w 0 0 ∷ get_or w 1 0 ∷ get_or w 2 0 ∷ get_or w 3 0 ∷ [] in
-    sets-eq bytes d 0 h ∙ ap (λ (v : List ℕ). v ++ drop 4 d) (sym (four_elements w e))
-
 -- ---- where there is a whole page or word, and where there is not
 
 pub page_whole : (b : List ℕ) → 4096 ≤ length b → first_page_erased b ≡ erased_bytes 4096 ++ drop 4096 b
 unfolding first_page_erased
 page_whole b h = rw (le-leb 4096 (length b) h)
+
+-- a whole page filled with 255, and what stands behind it
+pub page_filled : {f : List ℕ} (b : List ℕ) → 4096 ≤ length b → f ≡ replicate (length (take 4096 b)) 255 → f ++ drop 4096 b ≡ first_page_erased b
+unfolding erased_bytes
+page_filled b h e = rw (page_whole b h, e, length-take-le 4096 b h)
 
 pub page_cut : (b : List ℕ) → length b < 4096 → first_page_erased b ≡ b
 unfolding first_page_erased

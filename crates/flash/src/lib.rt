@@ -11,8 +11,9 @@ ghost use Rattle.std.specs.Prelude.{◌≡◌};
 ghost use Rattle.flash.specs.Flash.{first_page_erased, first_word_stored, starts_erased};
 ghost use Rattle.flash.specs.Operation.{word_of, bytes_of};
 
-// A word: its four bytes in order. (An enum holds no array.)
-#[derive(Clone, Copy)]
+// A word: its four bytes in order. It is no array: the theorem InterruptedOperations speaks of every
+// word, and a list of bytes in a definition carries no length.
+#[derive(Clone, Copy, PartialEq, Eq, Debug)]
 pub struct Word {
     pub b0: u8,
     pub b1: u8,
@@ -20,8 +21,9 @@ pub struct Word {
     pub b3: u8,
 }
 
-// What is done to the flash: nothing, a page erased, counted from 0, or a word stored at an offset.
-#[derive(Clone, Copy)]
+// What is done to the flash: nothing, a page erased, counted from 0, or a word stored at an offset. These are
+// the three kinds of the specification, 10.5, so it is no Option of two.
+#[derive(Clone, Copy, PartialEq, Eq, Debug)]
 pub enum Operation {
     Nothing,
     ErasePage(usize),
@@ -29,58 +31,50 @@ pub enum Operation {
 }
 
 // Four bytes as a word.
-pub fn word_of(b: [u8; 4]) -> Word
-    ensures { result ≡ word_of b }
-{
-    Word {
-        b0: b[0],
-        b1: b[1],
-        b2: b[2],
-        b3: b[3],
+impl From<[u8; 4]> for Word {
+    ghost from_gives = { λ b w. w ≡ word_of b };
+
+    fn from(b: [u8; 4]) -> Word {
+        let [b0, b1, b2, b3] = b;
+        Word { b0, b1, b2, b3 }
     }
 }
 
 // A word as four bytes.
-pub fn bytes_of(w: Word) -> [u8; 4]
-    ensures { result ≡ bytes_of w }
-{
-    [w.b0, w.b1, w.b2, w.b3]
+impl From<Word> for [u8; 4] {
+    ghost from_gives = { λ w b. b ≡ bytes_of w };
+
+    fn from(w: Word) -> [u8; 4] {
+        [w.b0, w.b1, w.b2, w.b3]
+    }
 }
 
 // Erases one page: its 4,096 bytes become 255. Nothing happens to less than a page.
+#[tactic(auto, using(crate::proofs::Laws::page_cut))]
 pub fn erase_page(page: &mut [u8])
     ensures { page.new ≡ first_page_erased page.old }
 {
     if page.len() < 4096 {
         return;
     }
-    let mut i: usize = 0;
-    while i < 4096 {
-        page[i] = 255;
-        i += 1;
-    }
+    page[..4096].fill(255);
 }
 
 // Stores one word. The caller has seen that the word there is erased, or stores zero. Nothing happens to
 // less than a word.
+#[tactic(auto, using(crate::proofs::Laws::word_whole, crate::proofs::Laws::word_cut))]
 pub fn store_word(at: &mut [u8], w: [u8; 4])
     ensures { at.new ≡ first_word_stored w at.old }
 {
     if at.len() < 4 {
         return;
     }
-    at[0] = w[0];
-    at[1] = w[1];
-    at[2] = w[2];
-    at[3] = w[3];
+    at[..4].copy_from_slice(&w);
 }
 
 // Whether the first word is erased. Less than a word is not.
 pub fn starts_erased(at: &[u8]) -> bool
     ensures { result ≡ starts_erased at.now }
 {
-    if at.len() < 4 {
-        return false;
-    }
-    (at[0] == 255) & ((at[1] == 255) & ((at[2] == 255) & (at[3] == 255)))
+    at.starts_with(&[255; 4])
 }

@@ -19,7 +19,7 @@ use Rattle.header.specs.Steps.{keys_impossible, length_impossible, code_len_impo
 use Rattle.header.specs.Table.{refusal, first_failing, vendor_shape, vendor_policy, firmware_shape, firmware_policy, header_rows, extent_rows_at}
 use Rattle.header.specs.Theorems.{BothSigned}
 use Rattle.header.specs.declared.Inputs.{Inputs}
-use Rattle.header.specs.declared.Outcome.TheVariants.{Pass, Refused}
+use Rattle.std.specs.Prelude.{Ok, Err}
 use Rattle.header.proofs.Rows.{passes_here, ends, pass_head, pass_tail, stage_first, stage_then}
 
 -- ---- the tests that several steps share
@@ -78,7 +78,7 @@ pub record VendorShaped (b : List ℕ) : Type 0 where
   pub zeros : all_are 0 (between 18 32 b) ≡ true
   pub padding : all_are 0 (between (string_end (key_count b) (string_len b)) (picture_start (key_count b) (string_len b)) b) ≡ true
 
-pub vendor_shaped : (b : List ℕ) → first_failing (vendor_shape b) ≡ Pass → VendorShaped b
+pub vendor_shaped : (b : List ℕ) → first_failing (vendor_shape b) ≡ Ok tt → VendorShaped b
 unfolding vendor_shape shorter_than_any_header vendor_len_impossible vendor_header_cut vendor_keys_impossible string_leaves_no_room vendor_bytes_not_zero
 vendor_shaped b h3 =
     let h4 = pass_tail _ _ _ h3 in
@@ -98,7 +98,7 @@ vendor_shaped b h3 =
     }
 
 -- fewer than 512 bytes
-pub short_refused : (b : List ℕ) → length b < 512 → first_failing (vendor_shape b) ≡ Refused (refusal 2 1)
+pub short_refused : (b : List ℕ) → length b < 512 → first_failing (vendor_shape b) ≡ Err (refusal 2 1)
 unfolding vendor_shape shorter_than_any_header first_failing
 short_refused b h = rw (lt-ltb (length b) 512 h)
 
@@ -108,7 +108,7 @@ pub record VendorAllowed (b : List ℕ) (given : Inputs) : Type 0 where
   pub signed : mask_wrong given.m given.n (vendor_mask b) ≡ false
   pub verdict : given.vendor ≡ true
 
-pub vendor_allowed : (b : List ℕ) (given : Inputs) → first_failing (vendor_policy b given) ≡ Pass → VendorAllowed b given
+pub vendor_allowed : (b : List ℕ) (given : Inputs) → first_failing (vendor_policy b given) ≡ Ok tt → VendorAllowed b given
 unfolding vendor_policy vendor_expired vendor_mask_wrong
 vendor_allowed b given h9 =
     let h10 = pass_tail _ _ _ h9 in
@@ -125,7 +125,7 @@ pub record FirmwareShaped (b : List ℕ) : Type 0 where
   pub zeros : all_are 0 (between (vendor_len b + 24) (vendor_len b + 32) b) ≡ true
   pub gap : all_are 0 (between (vendor_len b + 544) (vendor_len b + 959) b) ≡ true
 
-pub firmware_shaped : (b : List ℕ) → first_failing (firmware_shape b) ≡ Pass → FirmwareShaped b
+pub firmware_shaped : (b : List ℕ) → first_failing (firmware_shape b) ≡ Ok tt → FirmwareShaped b
 unfolding firmware_shape firmware_header_cut firmware_magic_missing firmware_len_wrong first_chunk_has_no_room code_len_wrong firmware_bytes_not_zero
 firmware_shaped b h12 =
     let h13 = pass_tail _ _ _ h12 in
@@ -152,7 +152,7 @@ pub record FirmwareAllowed (b : List ℕ) (given : Inputs) : Type 0 where
   pub signed : mask_wrong (signers_needed b) (key_count b) (firmware_mask b) ≡ false
   pub verdict : given.firmware ≡ true
 
-pub firmware_allowed : (b : List ℕ) (given : Inputs) → first_failing (firmware_policy b given) ≡ Pass → FirmwareAllowed b given
+pub firmware_allowed : (b : List ℕ) (given : Inputs) → first_failing (firmware_policy b given) ≡ Ok tt → FirmwareAllowed b given
 unfolding firmware_policy firmware_expired firmware_mask_wrong
 firmware_allowed b given h18 =
     let h19 = pass_tail _ _ _ h18 in
@@ -163,12 +163,12 @@ firmware_allowed b given h18 =
 pub record HeadersPass (magic_missing : Bool) (b : List ℕ) (given : Inputs) : Type 0 where
   pub magic : magic_missing ≡ false
   pub policy : keys_impossible given.m given.n ≡ false
-  pub vendor : first_failing (vendor_shape b) ≡ Pass
-  pub allowed : first_failing (vendor_policy b given) ≡ Pass
-  pub firmware : first_failing (firmware_shape b) ≡ Pass
-  pub signed : first_failing (firmware_policy b given) ≡ Pass
+  pub vendor : first_failing (vendor_shape b) ≡ Ok tt
+  pub allowed : first_failing (vendor_policy b given) ≡ Ok tt
+  pub firmware : first_failing (firmware_shape b) ≡ Ok tt
+  pub signed : first_failing (firmware_policy b given) ≡ Ok tt
 
-pub headers_pass : (magic_missing : Bool) (b : List ℕ) (given : Inputs) → first_failing (header_rows magic_missing b given) ≡ Pass → HeadersPass magic_missing b given
+pub headers_pass : (magic_missing : Bool) (b : List ℕ) (given : Inputs) → first_failing (header_rows magic_missing b given) ≡ Ok tt → HeadersPass magic_missing b given
 unfolding header_rows policy_impossible
 headers_pass magic_missing b given h1 =
     let h2 = pass_tail _ _ _ h1 in
@@ -185,7 +185,7 @@ headers_pass magic_missing b given h1 =
     }
 
 -- so both headers are signed
-pub both_signed : (magic_missing : Bool) (b : List ℕ) (given : Inputs) → first_failing (header_rows magic_missing b given) ≡ Pass → BothSigned b given
+pub both_signed : (magic_missing : Bool) (b : List ℕ) (given : Inputs) → first_failing (header_rows magic_missing b given) ≡ Ok tt → BothSigned b given
 both_signed magic_missing b given h =
     let p = headers_pass magic_missing b given h in
     let k = keys_possible given.m given.n p.policy in
@@ -208,7 +208,7 @@ pub record ExtentPasses (tail_wrong : Bool) (b : List ℕ) (at : ℕ) : Type 0 w
   pub held : code_end_at b at ≤ length b
   pub tail : tail_wrong ≡ false
 
-pub extent_passes : (tail_wrong : Bool) (b : List ℕ) (at : ℕ) → first_failing (extent_rows_at tail_wrong b at) ≡ Pass → ExtentPasses tail_wrong b at
+pub extent_passes : (tail_wrong : Bool) (b : List ℕ) (at : ℕ) → first_failing (extent_rows_at tail_wrong b at) ≡ Ok tt → ExtentPasses tail_wrong b at
 unfolding extent_rows_at
 extent_passes tail_wrong b at h21 =
     record {
@@ -216,6 +216,6 @@ extent_passes tail_wrong b at h21 =
       tail = pass_head _ _ _ (pass_tail (code_cut_at b at) _ _ h21);
     }
 
-pub passing_extent : {tail_wrong : Bool} {b : List ℕ} {at : ℕ} → ExtentPasses tail_wrong b at → first_failing (extent_rows_at tail_wrong b at) ≡ Pass
+pub passing_extent : {tail_wrong : Bool} {b : List ℕ} {at : ℕ} → ExtentPasses tail_wrong b at → first_failing (extent_rows_at tail_wrong b at) ≡ Ok tt
 unfolding extent_rows_at
 passing_extent {b = b} {at} e = sym (passes_here _ _ (le-ltb (length b) (code_end_at b at) e.held) (passes_here _ _ e.tail ends))

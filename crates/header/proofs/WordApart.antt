@@ -17,7 +17,7 @@ use Rattle.header.specs.Layout.{TRZV, vendor_len, key_count}
 use Rattle.header.specs.Steps.{vendor_magic_missing}
 use Rattle.header.specs.Table.{first_failing, vendor_shape, firmware_shape, header_rows}
 use Rattle.header.specs.Alike.{Alike, ReadByHeaders}
-use Rattle.header.specs.declared.Outcome.TheVariants.{Pass}
+use Rattle.std.specs.Prelude.{Ok}
 use Rattle.header.proofs.Facts.{vendor_shaped, short_refused}
 use Rattle.header.proofs.Alike.{vendor_shape_alike, vendor_policy_alike, firmware_shape_alike, firmware_policy_alike}
 use Rattle.header.proofs.Rows.{same_row, same_stage}
@@ -70,7 +70,7 @@ module _ (w b : List ℕ) (l : length w ≡ 4) where
   word_alike h = record { at = λ i r. word_byte i (leb-true 4 i r); len = λ n r. ap (min n) (word_length h) }
 
   -- where the vendor header has its shape, the bytes are long enough
-  pub shaped_word_alike : first_failing (vendor_shape b) ≡ Pass → Alike after_word any_end (w ++ drop 4 b) b
+  pub shaped_word_alike : first_failing (vendor_shape b) ≡ Ok tt → Alike after_word any_end (w ++ drop 4 b) b
   shaped_word_alike p = let long = (vendor_shaped b p).long in word_alike (omega arith)
 
   -- S1 reads the word alone
@@ -89,7 +89,7 @@ module _ (w b : List ℕ) (l : length w ≡ 4) where
       (split (length b) 4)
 
   -- S12 to S17
-  pub word_firmware_shape : first_failing (vendor_shape b) ≡ Pass → first_failing (firmware_shape (w ++ drop 4 b)) ≡ first_failing (firmware_shape b)
+  pub word_firmware_shape : first_failing (vendor_shape b) ≡ Ok tt → first_failing (firmware_shape (w ++ drop 4 b)) ≡ first_failing (firmware_shape b)
   word_firmware_shape p = firmware_shape_alike (shaped_word_alike p) (read_after_word b) (vendor_shaped b p).size.least
 
   -- S1 to S20, where S1 is answered apart

@@ -1,12 +1,11 @@
 -- The steps of the check as rows of a table, in the order of the specification, 6. The first failing row answers.
 -- S23, which compares the hashes, has its rows in the crate image.
 -- Assumes nothing.
-use Rattle.std.specs.Prelude.{ℕ, List, [], ◌∷◌, ◌++◌, Bool, true, false, not}
+use Rattle.std.specs.Prelude.{ℕ, List, [], ◌∷◌, ◌++◌, Bool, true, false, not, Ok, Err}
 use Rattle.code_header.specs.Tests.{code_cut_at}
 use Rattle.header.specs.Layout.{vendor_len}
 use Rattle.header.specs.declared.Refusal.{Refusal}
-use Rattle.header.specs.declared.Outcome.{Outcome}
-use Rattle.header.specs.declared.Outcome.TheVariants.{Pass, Refused}
+use Rattle.header.specs.Outcome.{Outcome}
 use Rattle.header.specs.declared.Inputs.{Inputs}
 use Rattle.header.specs.Steps.{policy_impossible, shorter_than_any_header, vendor_len_impossible, vendor_header_cut, vendor_keys_impossible, string_leaves_no_room, vendor_bytes_not_zero, vendor_expired, vendor_mask_wrong, firmware_header_cut, firmware_magic_missing, firmware_len_wrong, first_chunk_has_no_room, code_len_wrong, firmware_bytes_not_zero, firmware_expired, firmware_mask_wrong}
 
@@ -22,14 +21,14 @@ abbrev pub step : Bool → ℕ → ℕ → Row
 step fails number part = row fails (refusal number part)
 
 unfoldable pub first_failing : List Row → Outcome
-first_failing [] = Pass
-first_failing (row true r ∷ rows) = Refused r
+first_failing [] = Ok tt
+first_failing (row true r ∷ rows) = Err r
 first_failing (row false r ∷ rows) = first_failing rows
 
--- an outcome, and where it is Pass the next
+-- an outcome, and where all passed the next
 abbrev pub or_else : Outcome → Outcome → Outcome
-or_else Pass o = o
-or_else (Refused r) o = Refused r
+or_else (Ok _) o = o
+or_else (Err r) o = Err r
 
 -- S3 to S8
 unfoldable pub vendor_shape : List ℕ → List Row

@@ -1,9 +1,8 @@
 -- What is shown of the header's rows.
 -- Assumes nothing.
-use Rattle.std.specs.Prelude.{ℕ, ◌≤◌, ◌≡◌, Bool, true, List}
+use Rattle.std.specs.Prelude.{ℕ, ◌≤◌, ◌≡◌, Bool, true, List, Ok}
 use Rattle.code_header.specs.Signers.{Signers}
 use Rattle.header.specs.declared.Inputs.{Inputs}
-use Rattle.header.specs.declared.Outcome.TheVariants.{Pass}
 use Rattle.header.specs.Layout.{vendor_mask, signers_needed, key_count, firmware_mask}
 use Rattle.header.specs.Table.{first_failing, header_rows}
 use Rattle.header.specs.Alike.{Alike, ReadByHeaders}
@@ -29,4 +28,4 @@ pub record BothSigned (b : List ℕ) (given : Inputs) : Type 0 where
 -- headers that pass S1 to S20 are signed
 abbrev pub PassingHeadersAreSigned : Type 0
 PassingHeadersAreSigned =
-    (magic_missing : Bool) (b : List ℕ) (given : Inputs) → first_failing (header_rows magic_missing b given) ≡ Pass → BothSigned b given
+    (magic_missing : Bool) (b : List ℕ) (given : Inputs) → first_failing (header_rows magic_missing b given) ≡ Ok tt → BothSigned b given

@@ -14,7 +14,7 @@ pub mod trust;
 
 // What a check is given besides the bytes: the time, the key policy m of n for the vendor header,
 // and the signature chip's word on each header.
-#[derive(Clone, Copy)]
+#[derive(Clone, Copy, PartialEq, Eq, Debug)]
 pub struct Inputs {
     pub time: u32,
     pub m: u32,
@@ -24,17 +24,15 @@ pub struct Inputs {
 }
 
 // A refusal: its number, its part (1 vendor header, 2 firmware header, 3 code, 0 otherwise), and
-// the chunk whose hash is wrong, or 0.
-#[derive(Clone, Copy)]
+// the chunk whose hash is wrong, or 0. Number and part are the specification's own, and no enums, which
+// would be narrower types: `image::accepted_part` and `abi::answer::tell` take a refusal of any number.
+#[derive(Clone, Copy, PartialEq, Eq, Debug)]
 pub struct Refusal {
     pub number: u32,
     pub part: u32,
     pub chunk: u32,
 }
 
-// What a list of steps answers: the first failing step's refusal.
-#[derive(Clone, Copy)]
-pub enum Outcome {
-    Pass,
-    Refused(Refusal),
-}
+// What a list of steps answers: the first failing step's refusal. Each call that users make promises what
+// its answer tells as well as the answer, in a clause `told` (specification, 14).
+pub type Outcome = Result<(), Refusal>;

@@ -1,18 +1,16 @@
 // The steps, each as a test that is true where the step fails. The definitions in
 // `specs/Steps.antt` say which step of the specification each is.
+#![tactic(auto, unfolding(crate::specs::Steps::vendor_magic_missing, crate::specs::Steps::policy_impossible, crate::specs::Steps::shorter_than_any_header, crate::specs::Steps::vendor_len_impossible, crate::specs::Steps::vendor_header_cut, crate::specs::Steps::vendor_keys_impossible, crate::specs::Steps::string_leaves_no_room, crate::specs::Steps::vendor_bytes_not_zero, crate::specs::Steps::vendor_expired, crate::specs::Steps::vendor_mask_wrong, crate::specs::Steps::firmware_header_cut, crate::specs::Steps::firmware_magic_missing, crate::specs::Steps::firmware_len_wrong, crate::specs::Steps::first_chunk_has_no_room, crate::specs::Steps::code_len_wrong, crate::specs::Steps::firmware_bytes_not_zero, crate::specs::Steps::firmware_expired, crate::specs::Steps::firmware_mask_wrong, crate::specs::Steps::bytes_follow, crate::specs::Steps::tail_not_erased))]
+
 ghost use Rattle.std.specs.Prelude.{◌≡◌};
 ghost use Rattle.header.specs.Steps.{keys_impossible, length_impossible, code_len_impossible, vendor_magic_missing, policy_impossible, shorter_than_any_header, vendor_len_impossible, vendor_header_cut, vendor_keys_impossible, string_leaves_no_room, vendor_bytes_not_zero, vendor_expired, vendor_mask_wrong, firmware_header_cut, firmware_magic_missing, firmware_len_wrong, first_chunk_has_no_room, code_len_wrong, firmware_bytes_not_zero, firmware_expired, firmware_mask_wrong, bytes_follow, tail_not_erased};
 
 use crate::layout::{
-    first_room, key_count, picture_start, signers_needed, string_end, string_len, vendor_expiry,
-    vendor_len, vendor_mask,
+    firmware_header, first_room, key_count, picture_start, signers_needed, string_end, string_len,
+    vendor_expiry, vendor_len, vendor_mask,
 };
-use code_header::layout::code_len_at;
-use code_header::tests::{
-    bytes_follow_at, bytes_not_zero_at, code_len_outside, expired, expired_at, hdr_len_wrong_at,
-    header_cut_at, magic_missing_at, mask_wrong, mask_wrong_at, tail_not_at,
-};
-use octets::{all_are, minus, part, starts_with};
+use code_header::tests::{code_len_outside, expired, mask_wrong};
+use octets::{all_are, part, starts_with};
 
 pub fn keys_impossible(m: u32, n: u32) -> bool
     ensures { result ≡ keys_impossible m n }
@@ -29,7 +27,7 @@ pub fn length_impossible(v: u32) -> bool
 pub fn code_len_impossible(v: usize, c: usize) -> bool
     ensures { result ≡ code_len_impossible v c }
 {
-    code_len_outside(minus(2097152 - 1024, v), c)
+    code_len_outside((2097152 - 1024usize).saturating_sub(v), c)
 }
 
 pub fn vendor_magic_missing(b: &[u8]) -> bool
@@ -65,7 +63,7 @@ pub fn vendor_header_cut(b: &[u8]) -> bool
 pub fn vendor_keys_impossible(b: &[u8]) -> bool
     ensures { result ≡ vendor_keys_impossible b.now }
 {
-    keys_impossible(signers_needed(b) as u32, key_count(b) as u32)
+    keys_impossible(u32::from(signers_needed(b)), u32::from(key_count(b)))
 }
 
 pub fn string_leaves_no_room(b: &[u8]) -> bool
@@ -97,19 +95,19 @@ pub fn vendor_mask_wrong(b: &[u8], m: u32, n: u32) -> bool
 pub fn firmware_header_cut(b: &[u8]) -> bool
     ensures { result ≡ firmware_header_cut b.now }
 {
-    header_cut_at(b, vendor_len(b))
+    firmware_header(b).is_cut()
 }
 
 pub fn firmware_magic_missing(b: &[u8]) -> bool
     ensures { result ≡ firmware_magic_missing b.now }
 {
-    magic_missing_at(b, vendor_len(b), b"TRZF")
+    firmware_header(b).magic_missing(b"TRZF")
 }
 
 pub fn firmware_len_wrong(b: &[u8]) -> bool
     ensures { result ≡ firmware_len_wrong b.now }
 {
-    hdr_len_wrong_at(b, vendor_len(b))
+    firmware_header(b).hdr_len_wrong()
 }
 
 pub fn first_chunk_has_no_room(b: &[u8]) -> bool
@@ -121,41 +119,36 @@ pub fn first_chunk_has_no_room(b: &[u8]) -> bool
 pub fn code_len_wrong(b: &[u8]) -> bool
     ensures { result ≡ code_len_wrong b.now }
 {
-    let v = vendor_len(b);
-    code_len_impossible(v as usize, code_len_at(b, v) as usize)
+    let header = firmware_header(b);
+    code_len_impossible(header.at as usize, header.code_len() as usize)
 }
 
 pub fn firmware_bytes_not_zero(b: &[u8]) -> bool
     ensures { result ≡ firmware_bytes_not_zero b.now }
 {
-    bytes_not_zero_at(b, vendor_len(b), 544, 959)
+    firmware_header(b).bytes_not_zero(544, 959)
 }
 
 pub fn firmware_expired(b: &[u8], time: u32) -> bool
     ensures { result ≡ firmware_expired b.now time }
 {
-    expired_at(b, vendor_len(b), time)
+    firmware_header(b).expired(time)
 }
 
 pub fn firmware_mask_wrong(b: &[u8]) -> bool
     ensures { result ≡ firmware_mask_wrong b.now }
 {
-    mask_wrong_at(
-        b,
-        vendor_len(b),
-        signers_needed(b) as u32,
-        key_count(b) as u32,
-    )
+    firmware_header(b).mask_wrong(u32::from(signers_needed(b)), u32::from(key_count(b)))
 }
 
 pub fn bytes_follow(b: &[u8]) -> bool
     ensures { result ≡ bytes_follow b.now }
 {
-    bytes_follow_at(b, vendor_len(b))
+    firmware_header(b).bytes_follow()
 }
 
 pub fn tail_not_erased(b: &[u8]) -> bool
     ensures { result ≡ tail_not_erased b.now }
 {
-    tail_not_at(b, vendor_len(b), 255)
+    firmware_header(b).tail_not(255)
 }

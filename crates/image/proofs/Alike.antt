@@ -9,14 +9,14 @@ use native.Mathlib.Omega.{arith}
 use lib.ListN.{length, get_or, drop}
 use lib.Dec.{ltb}
 use borrow.Author.Tests.{le-leb}
+use Rattle.std.specs.Prelude.{Ok, Err}
 use Rattle.octets.specs.Read.{between, starts_with}
 use Rattle.header.specs.Layout.{TRZV, vendor_len, code_start, image_len}
 use Rattle.header.specs.Steps.{bytes_follow}
 use Rattle.header.specs.Table.{first_failing, header_rows, extent_rows, extent_rows_at}
 use Rattle.header.specs.Alike.{Alike, ReadByHeaders}
 use Rattle.header.specs.declared.Inputs.{Inputs}
-use Rattle.header.specs.declared.Outcome.{Outcome}
-use Rattle.header.specs.declared.Outcome.TheVariants.{Pass, Refused}
+use Rattle.header.specs.Outcome.{Outcome}
 use Rattle.header.proofs.Rows.{same_row, same_stage, stage_first}
 use Rattle.header.proofs.Facts.{headers_pass, vendor_shaped}
 use Rattle.header.proofs.Alike.{between_alike, bytes_alike, vendor_len_alike, code_len_alike, image_len_alike, code_cut_alike}
@@ -25,7 +25,7 @@ use Rattle.image.specs.Chunks.{hashes_at, hash_table, code_of, hash_rows}
 use Rattle.image.specs.Answer.{version_at, image_of, answer_of}
 use Rattle.image.specs.Check.{check_rows, check_file}
 use Rattle.image.specs.declared.Image.{Image}
-use Rattle.image.specs.declared.Answer.{Answer}
+use Rattle.image.specs.Answer.{Answer}
 
 -- ---- S21 to S23, and what an acceptance tells
 
@@ -86,10 +86,10 @@ module _ {R N : ℕ → Bool} {b c : List ℕ} (w : Alike R N b c) (read : ReadB
   pub later_rows_alike : (x y : Bool) → x ≡ y → first_failing (extent_rows x b ++ hash_rows b) ≡ first_failing (extent_rows y c ++ hash_rows c)
   later_rows_alike x y e = same_stage (extent_rows x b) (extent_rows y c) _ _ (extent_rows_alike x y e) (λ p. hash_rows_alike)
 
--- the same outcome, and where it is Pass the same image
-pub same_answer : (o o' : Outcome) (i i' : Image) → o ≡ o' → (o' ≡ Pass → i ≡ i') → answer_of o i ≡ answer_of o' i'
-same_answer o Pass i i' e h = rw (e, h refl)
-same_answer o (Refused r) i i' e h = rw e
+-- the same outcome, and where it passes the same image
+pub same_answer : (o o' : Outcome) (i i' : Image) → o ≡ o' → (o' ≡ Ok tt → i ≡ i') → answer_of o i ≡ answer_of o' i'
+same_answer o (Ok tt) i i' e h = rw (e, h refl)
+same_answer o (Err r) i i' e h = rw e
 
 -- ---- the first word apart: w ++ drop 4 b agrees with b from 4 on
 
@@ -105,7 +105,7 @@ read_after_word_too b =
 
 module _ (w b : List ℕ) (four : length w ≡ 4) where
   -- where the headers pass there are 512 bytes, and v is at least 512
-  long : (magic_missing : Bool) (given : Inputs) → first_failing (header_rows magic_missing b given) ≡ Pass → (4 ≤ length b) × (512 ≤ vendor_len b)
+  long : (magic_missing : Bool) (given : Inputs) → first_failing (header_rows magic_missing b given) ≡ Ok tt → (4 ≤ length b) × (512 ≤ vendor_len b)
   long magic_missing given p =
       let v = vendor_shaped b (headers_pass magic_missing b given p).vendor in
       let l = v.long in

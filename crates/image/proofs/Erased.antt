@@ -10,6 +10,7 @@ use lib.ListN.{length, take, replicate, length-append, get_or-append}
 use lib.Seq.{drop-append_seam}
 use lib.Dec.{leb, ltb}
 use borrow.Author.Tests.{le-leb, leb-true, lt-ltb, ltb-true}
+use Rattle.std.specs.Prelude.{Ok}
 use Rattle.octets.specs.Read.{all_are}
 use Rattle.header.specs.Layout.{TRZV, vendor_len, key_count, image_len}
 use Rattle.header.specs.Steps.{vendor_magic_missing, bytes_follow, tail_not_erased}
@@ -21,7 +22,6 @@ use Rattle.header.proofs.Alike.{image_len_alike, headers_alike}
 use Rattle.image.specs.Answer.{image_of}
 use Rattle.image.specs.Check.{check_rows, check_slot}
 use Rattle.image.specs.Theorems.{ErasedOrZeroRefused, AcceptedBeforeErased}
-use Rattle.image.specs.declared.Answer.TheVariants.{Accepted}
 use Rattle.image.proofs.Facts.{RowsPass, sound, file_rows_pass, file_told, file_length, rows_accepted}
 use Rattle.image.proofs.Alike.{ReadByCheck, extent_rows_alike, hash_rows_alike, image_of_alike}
 use Rattle.header.proofs.WordApart.{starts_within}
@@ -110,10 +110,10 @@ module _ (file : List ℕ) (given : Inputs) (p : RowsPass (vendor_magic_missing 
         hashes = hash_rows_alike w read least ∙ p.hashes;
       }
 
-  slot_stays : check_slot slot given ≡ Accepted (image_of file)
+  slot_stays : check_slot slot given ≡ Ok (image_of file)
   unfolding check_slot
-  slot_stays = rows_accepted slot_rows_pass ∙ ap Accepted (image_of_alike w read least)
+  slot_stays = rows_accepted slot_rows_pass ∙ ap Ok (image_of_alike w read least)
 
 pub accepted_before_erased : AcceptedBeforeErased
 accepted_before_erased file n given i h =
-    slot_stays file given (file_rows_pass file given i h) n ∙ ap Accepted (file_told file given i h)
+    slot_stays file given (file_rows_pass file given i h) n ∙ ap Ok (file_told file given i h)

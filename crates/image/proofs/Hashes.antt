@@ -10,14 +10,14 @@ use native.Mathlib.Omega.{arith}
 use lib.ListN.{length, get_or, take, set, replicate, length-append, get_or-append}
 use lib.Seq.{take-suc-set, ext_get_or, get_or_at}
 use borrow.Author.Tests.{not-false}
+use Rattle.std.specs.Prelude.{Ok, Err}
 use Rattle.octets.specs.Read.{between, bytes_at}
 use Rattle.octets.proofs.Laws.{split, between_past, same_self, same_equal}
 use Rattle.blake2s.specs.Rfc7693.{blake2s_of, serialised, bytes_of}
 use Rattle.header.specs.Layout.{vendor_len, first_room}
 use Rattle.header.specs.Table.{Row, row, first_failing}
 use Rattle.header.specs.declared.Refusal.{Refusal}
-use Rattle.header.specs.declared.Outcome.{Outcome}
-use Rattle.header.specs.declared.Outcome.TheVariants.{Pass, Refused}
+use Rattle.header.specs.Outcome.{Outcome}
 use Rattle.header.proofs.Rows.{pass_head, pass_tail, Numbered}
 use Rattle.image.specs.Chunks.{room_of, chunk_start, chunk, hash_of, hashes_of, hashes_at, hash_table, code_of, wrong_hash, chunk_row, chunk_rows, hash_rows}
 
@@ -151,21 +151,21 @@ wrong_used [] k e = absurd (e refl)
 wrong_used (x ∷ bytes) k e = refl
 
 -- a row by itself, of a test that says whether the hash is right
-pub row_failed : {t : Bool} {r s : Refusal} → t ≡ false → r ≡ s → Refused r ≡ first_failing (row (not t) s ∷ [])
+pub row_failed : {t : Bool} {r s : Refusal} → t ≡ false → r ≡ s → Err r ≡ first_failing (row (not t) s ∷ [])
 unfolding first_failing
-row_failed e f = rw e (ap Refused f)
+row_failed e f = rw e (ap Err f)
 
-pub row_passed : {t : Bool} (s : Refusal) → t ≡ true → Pass ≡ first_failing (row (not t) s ∷ [])
+pub row_passed : {t : Bool} (s : Refusal) → t ≡ true → Ok tt ≡ first_failing (row (not t) s ∷ [])
 unfolding first_failing
 row_passed s e = rw e
 
 -- a row by itself, and before others
-row_passes : (r : Row) (rows : List Row) → first_failing (r ∷ []) ≡ Pass → first_failing (r ∷ rows) ≡ first_failing rows
+row_passes : (r : Row) (rows : List Row) → first_failing (r ∷ []) ≡ Ok tt → first_failing (r ∷ rows) ≡ first_failing rows
 unfolding first_failing
 row_passes (row true r) rows h = cc
 row_passes (row false r) rows h = refl
 
-row_fails : {f : Refusal} (r : Row) (rows : List Row) → first_failing (r ∷ []) ≡ Refused f → first_failing (r ∷ rows) ≡ Refused f
+row_fails : {f : Refusal} (r : Row) (rows : List Row) → first_failing (r ∷ []) ≡ Err f → first_failing (r ∷ rows) ≡ Err f
 unfolding first_failing
 row_fails (row true r) rows h = h
 row_fails (row false r) rows h = cc
@@ -186,7 +186,7 @@ module _ {digest : List ℕ → List ℕ} {first : ℕ} {code : List ℕ} {table
   next_small e = let f = w.start in let c = w.count in let r = room_most first k in let s = start_most first k in omega arith
 
   -- all sixteen are right
-  pub reached_end : 16 ≤ k → Pass ≡ first_failing (chunk_rows digest first code table 0 16)
+  pub reached_end : 16 ≤ k → Ok tt ≡ first_failing (chunk_rows digest first code table 0 16)
   unfolding chunk_rows first_failing
   reached_end h =
       let e : 16 - k ≡ 0 = omega arith in
@@ -215,7 +215,7 @@ module _ {digest : List ℕ → List ℕ} {first : ℕ} {code : List ℕ} {table
         let e : 16 - k ≡ suc (16 - (k + 1)) = omega arith in
         w.answer ∙ ap (λ (n : ℕ). first_failing (chunk_rows digest first code table k n)) e
 
-    pub reached_next : o ≡ Pass → Reached digest first code table (from + room) (k + 1)
+    pub reached_next : o ≡ Ok tt → Reached digest first code table (from + room) (k + 1)
     reached_next h =
         record {
           count = omega arith;
@@ -223,7 +223,7 @@ module _ {digest : List ℕ → List ℕ} {first : ℕ} {code : List ℕ} {table
           answer = one_left ∙ rw (add-one k) (row_passes row_here _ (sym row_is ∙ h));
         }
 
-    pub reached_wrong : {r : Refusal} → o ≡ Refused r → Refused r ≡ first_failing (chunk_rows digest first code table 0 16)
+    pub reached_wrong : {r : Refusal} → o ≡ Err r → Err r ≡ first_failing (chunk_rows digest first code table 0 16)
     reached_wrong h = sym (one_left ∙ row_fails row_here _ (sym row_is ∙ h))
 
 -- ---- S23 passes exactly where each hash is right
@@ -233,13 +233,13 @@ module _ (digest : List ℕ → List ℕ) (first : ℕ) (code : List ℕ) (table
   abbrev pub RightHash : ℕ → Type 0
   RightHash k = hash_of digest (chunk first k code) ≡ get_or table k []
 
-  pub chunk_rows_pass : (k n : ℕ) → ((i : ℕ) → k ≤ i → i < k + n → RightHash i) → first_failing (chunk_rows digest first code table k n) ≡ Pass
+  pub chunk_rows_pass : (k n : ℕ) → ((i : ℕ) → k ≤ i → i < k + n → RightHash i) → first_failing (chunk_rows digest first code table k n) ≡ Ok tt
   unfolding chunk_rows chunk_row first_failing
   chunk_rows_pass k zero h = refl
   chunk_rows_pass k (suc n) h =
       rw (h k (omega arith) (omega arith), same_self) (chunk_rows_pass (suc k) n (λ i g l. h i (omega arith) (omega arith)))
 
-  pub chunk_rows_right : (k n : ℕ) → first_failing (chunk_rows digest first code table k n) ≡ Pass → (i : ℕ) → k ≤ i → i < k + n → RightHash i
+  pub chunk_rows_right : (k n : ℕ) → first_failing (chunk_rows digest first code table k n) ≡ Ok tt → (i : ℕ) → k ≤ i → i < k + n → RightHash i
   unfolding chunk_rows chunk_row
   chunk_rows_right k zero h i g l = absurd (omega arith)
   chunk_rows_right k (suc n) h i g l =
@@ -249,11 +249,11 @@ module _ (digest : List ℕ → List ℕ) (first : ℕ) (code : List ℕ) (table
       (split k i)
 
 -- of an image
-pub hashes_pass : (b : List ℕ) → hash_table b ≡ hashes_of blake2s_of 16 (first_room (vendor_len b)) (code_of b) → first_failing (hash_rows b) ≡ Pass
+pub hashes_pass : (b : List ℕ) → hash_table b ≡ hashes_of blake2s_of 16 (first_room (vendor_len b)) (code_of b) → first_failing (hash_rows b) ≡ Ok tt
 unfolding hash_rows
 hashes_pass b e = chunk_rows_pass _ _ _ _ 0 16 (λ i g l. sym (rw e (hash_of_lem blake2s_of 16 (first_room (vendor_len b)) (code_of b) i (omega arith))))
 
-pub hashes_right : (b : List ℕ) → first_failing (hash_rows b) ≡ Pass → hash_table b ≡ hashes_of blake2s_of 16 (first_room (vendor_len b)) (code_of b)
+pub hashes_right : (b : List ℕ) → first_failing (hash_rows b) ≡ Ok tt → hash_table b ≡ hashes_of blake2s_of 16 (first_room (vendor_len b)) (code_of b)
 unfolding hash_rows
 hashes_right b h =
     let l = table_length b in

@@ -9,6 +9,7 @@ use lib.ListN.{length, get_or, take, drop, length-take, length-drop}
 use lib.Seq.{get_or-take, take_all}
 use lib.Dec.{leb, ltb}
 use borrow.Author.Tests.{le-leb, lt-ltb, ltb-true}
+use Rattle.std.specs.Prelude.{Ok}
 use Rattle.octets.specs.Read.{u32_at, between}
 use Rattle.octets.proofs.Laws.{and_right}
 use Rattle.blake2s.specs.Rfc7693.{blake2s_of}
@@ -23,8 +24,7 @@ use Rattle.image.specs.Difference.{chunk_of, OneCode}
 use Rattle.image.specs.Theorems.{image_bytes, header_bytes, code_bytes, AcceptedOneCode, OneHeaderOneCode}
 use Rattle.image.specs.Check.{check_file, check_slot}
 use Rattle.image.specs.declared.Image.{Image}
-use Rattle.image.specs.declared.Answer.{Answer}
-use Rattle.image.specs.declared.Answer.TheVariants.{Accepted}
+use Rattle.image.specs.Answer.{Answer}
 use Rattle.image.proofs.Hashes.{start_at, hash_of_lem}
 use Rattle.image.proofs.Facts.{Sound, sound, file_rows_pass, file_told, file_length}
 use Rattle.image.proofs.Alike.{hashes_at_alike}
@@ -158,7 +158,7 @@ pub record Known (bytes : List ℕ → Image → List ℕ) (b : List ℕ) (i : I
   pub told : image_of b ≡ i
   pub whole : image_bytes b i ≡ bytes b i
 
-one_code_of : (check : List ℕ → Inputs → Answer) (bytes : List ℕ → Image → List ℕ) → ((b : List ℕ) (given : Inputs) (i : Image) → check b given ≡ Accepted i → Known bytes b i)
+one_code_of : (check : List ℕ → Inputs → Answer) (bytes : List ℕ → Image → List ℕ) → ((b : List ℕ) (given : Inputs) (i : Image) → check b given ≡ Ok i → Known bytes b i)
     → AcceptedOneCode check bytes
 one_code_of check bytes known =
     record {
@@ -172,7 +172,7 @@ one_code_of check bytes known =
           (told_one_code b c i j (b ≡ c) x.holds y.holds x.told y.told).signed;
     }
 
-file_whole : (b : List ℕ) (given : Inputs) (i : Image) → check_file b given ≡ Accepted i → image_bytes b i ≡ b
+file_whole : (b : List ℕ) (given : Inputs) (i : Image) → check_file b given ≡ Ok i → image_bytes b i ≡ b
 unfolding image_of
 file_whole b given i h =
     ap (image_bytes b) (sym (file_told b given i h))

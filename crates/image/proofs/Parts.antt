@@ -5,6 +5,7 @@ use mathlib.Core.Path.{◌≡◌, refl, subst}
 use mathlib.Core.List.{List}
 use native.Mathlib.Omega.{arith}
 use lib.ListN.{take, drop}
+use Rattle.std.specs.Prelude.{Ok}
 use Rattle.octets.specs.Read.{between}
 use Rattle.header.specs.Layout.{vendor_len, code_len, key_count, string_len, string_start, string_end, picture_start, mask_at, code_start, image_len}
 use Rattle.header.specs.Steps.{vendor_magic_missing, tail_not_erased}
@@ -14,16 +15,15 @@ use Rattle.image.specs.Answer.{image_of}
 use Rattle.image.specs.Check.{check_rows, check_slot}
 use Rattle.image.specs.Theorems.{PartsStand, AcceptedParts}
 use Rattle.image.specs.declared.Image.{Image}
-use Rattle.image.specs.declared.Answer.TheVariants.{Accepted}
 use Rattle.image.proofs.Facts.{told, RowsPass, Sound, sound, accepted_rows, file_rows_pass, file_told, length_part, code_length}
 
 -- ---- an accepted slot
 
-pub slot_rows_pass : (b : List ℕ) (given : Inputs) (i : Image) → check_slot b given ≡ Accepted i → RowsPass (vendor_magic_missing b) (tail_not_erased b) b given
+pub slot_rows_pass : (b : List ℕ) (given : Inputs) (i : Image) → check_slot b given ≡ Ok i → RowsPass (vendor_magic_missing b) (tail_not_erased b) b given
 unfolding check_slot
 slot_rows_pass b given i h = accepted_rows (vendor_magic_missing b) (tail_not_erased b) b given i h
 
-pub slot_told : (b : List ℕ) (given : Inputs) (i : Image) → check_slot b given ≡ Accepted i → image_of b ≡ i
+pub slot_told : (b : List ℕ) (given : Inputs) (i : Image) → check_slot b given ≡ Ok i → image_of b ≡ i
 unfolding check_slot
 slot_told b given i h = told (first_failing (check_rows (vendor_magic_missing b) (tail_not_erased b) b given)) (image_of b) i h
 
@@ -34,7 +34,7 @@ pub part_taken : (b : List ℕ) (a n s e : ℕ) → s ≡ a → e ≡ a + n → 
 unfolding between
 part_taken b a n s e h g = let d : e - s ≡ n = omega arith in rw (d, h)
 
-pub parts_stand : (b : List ℕ) → Sound b → PartsStand b (Accepted (image_of b)) (image_of b)
+pub parts_stand : (b : List ℕ) → Sound b → PartsStand b (Ok (image_of b)) (image_of b)
 unfolding image_of
 parts_stand b k =
     let n = key_count b in
@@ -50,8 +50,8 @@ parts_stand b k =
     }
 
 -- of the image that is told
-told_parts_stand : {i : Image} (b : List ℕ) → Sound b → image_of b ≡ i → PartsStand b (Accepted i) i
-told_parts_stand b k e = subst (λ (j : Image). PartsStand b (Accepted j) j) e (parts_stand b k)
+told_parts_stand : {i : Image} (b : List ℕ) → Sound b → image_of b ≡ i → PartsStand b (Ok i) i
+told_parts_stand b k e = subst (λ (j : Image). PartsStand b (Ok j) j) e (parts_stand b k)
 
 pub accepted_parts : AcceptedParts
 accepted_parts =

@@ -7,6 +7,7 @@ use mathlib.Core.Bool.{Bool, not}
 use native.Mathlib.Omega.{arith}
 use lib.ListN.{drop}
 use lib.Dec.{ltb}
+use Rattle.std.specs.Prelude.{Ok, Err}
 use Rattle.octets.specs.Read.{between, all_are}
 use Rattle.header.specs.Layout.{vendor_len, key_count, string_len, string_start, string_end, picture_start, mask_at, image_len}
 use Rattle.header.specs.Steps.{vendor_magic_missing, bytes_follow, tail_not_erased}
@@ -22,16 +23,15 @@ use Rattle.image.specs.Check.{check_rows, check_file, check_slot}
 use Rattle.image.specs.Parts.{string_of, picture_of, when_accepted}
 use Rattle.image.specs.Theorems.{AnsweredAlike, SignaturesAreNotRead}
 use Rattle.image.specs.declared.Image.{Image}
-use Rattle.image.specs.declared.Answer.{Answer}
-use Rattle.image.specs.declared.Answer.TheVariants.{Accepted, Rejected}
+use Rattle.image.specs.Answer.{Answer}
 use Rattle.image.proofs.Facts.{Sound, sound, file_rows_pass}
 use Rattle.image.proofs.Parts.{slot_rows_pass}
 use Rattle.image.proofs.Alike.{ReadByCheck, image_of_alike, code_alike, later_rows_alike, same_answer}
 
 -- the same answer, and where it is an acceptance the same part
-same_part : (one two : Answer) (x y : List ℕ) → one ≡ two → ((i : Image) → two ≡ Accepted i → x ≡ y) → when_accepted one x ≡ when_accepted two y
-same_part one (Accepted i) x y e h = rw e (h i refl)
-same_part one (Rejected r) x y e h = rw e
+same_part : (one two : Answer) (x y : List ℕ) → one ≡ two → ((i : Image) → two ≡ Ok i → x ≡ y) → when_accepted one x ≡ when_accepted two y
+same_part one (Ok i) x y e h = rw e (h i refl)
+same_part one (Err r) x y e h = rw e
 
 module _ {b c : List ℕ} (d : DifferInSignatures b c) where
   abbrev w : Alike (outside (vendor_len b)) any_end b c
@@ -99,7 +99,7 @@ module _ {b c : List ℕ} (d : DifferInSignatures b c) where
         ap₂ (λ (p v : ℕ). between p (mask_at v) b) (ap₂ picture_start counts.0 counts.1) e
         ∙ between_alike w (picture_start (key_count c) (string_len c)) (mask_at (vendor_len c)) refl (λ i g h. in_vendor (vendor_len b) i (omega (arith, least)))
 
-  alike : (one two : Answer) → one ≡ two → ((i : Image) → two ≡ Accepted i → Sound c) → AnsweredAlike b c one two
+  alike : (one two : Answer) → one ≡ two → ((i : Image) → two ≡ Ok i → Sound c) → AnsweredAlike b c one two
   alike one two e h =
       record {
         answer = e;

@@ -1,24 +1,16 @@
 -- What a check answers.
 -- Assumes nothing.
-use Rattle.std.specs.Prelude.{ℕ, ◌+◌, List, [], ◌∷◌, ◌++◌, get_or}
+use Rattle.std.specs.Prelude.{ℕ, ◌+◌, List, [], ◌∷◌, ◌++◌, get_or, Result, Ok, Err}
 use Rattle.code_header.specs.Layout.{code_len_at}
 use Rattle.header.specs.Layout.{vendor_len}
-use Rattle.header.specs.declared.Outcome.{Outcome}
-use Rattle.header.specs.declared.Outcome.TheVariants.{Pass, Refused}
+use Rattle.header.specs.declared.Refusal.{Refusal}
+use Rattle.header.specs.Outcome.{Outcome}
 use Rattle.image.specs.declared.Version.{Version}
 use Rattle.image.specs.declared.Image.{Image}
-use Rattle.image.specs.declared.Answer.{Answer}
-use Rattle.image.specs.declared.Answer.TheVariants.{Accepted, Rejected}
 
--- the number of every answer (specification, 14)
-abbrev pub number_of : Answer → ℕ
-number_of (Accepted i) = 0
-number_of (Rejected r) = r.number
-
--- part and chunk, both 0 of an acceptance
-abbrev pub where_of : Answer → List ℕ
-where_of (Accepted i) = 0 ∷ 0 ∷ []
-where_of (Rejected r) = r.part ∷ r.chunk ∷ []
+-- an acceptance, or a refusal
+abbrev pub Answer : Type 0
+Answer = Result Image Refusal
 
 -- a version's four numbers
 abbrev pub version_numbers : Version → List ℕ
@@ -26,8 +18,8 @@ version_numbers x = x.major ∷ x.minor ∷ x.patch ∷ x.build ∷ []
 
 -- every value: number, part and chunk; and of an acceptance v, codelen, the version and the fix version
 abbrev pub told : Answer → List ℕ
-told (Accepted i) = 0 ∷ 0 ∷ 0 ∷ i.v ∷ i.codelen ∷ (version_numbers i.version ++ version_numbers i.fix)
-told (Rejected r) = r.number ∷ r.part ∷ r.chunk ∷ []
+told (Ok i) = 0 ∷ 0 ∷ 0 ∷ i.v ∷ i.codelen ∷ (version_numbers i.version ++ version_numbers i.fix)
+told (Err r) = r.number ∷ r.part ∷ r.chunk ∷ []
 
 -- major, minor, patch, build
 abbrev pub version_at : List ℕ → ℕ → Version
@@ -43,5 +35,5 @@ image_of b = image_at b (vendor_len b) (vendor_len b)
 
 -- an outcome of all steps as the answer
 abbrev pub answer_of : Outcome → Image → Answer
-answer_of Pass i = Accepted i
-answer_of (Refused r) i = Rejected r
+answer_of (Ok _) i = Ok i
+answer_of (Err r) i = Err r

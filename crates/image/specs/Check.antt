@@ -5,9 +5,8 @@ use Rattle.std.specs.Prelude.{List, ◌++◌, Bool, ℕ}
 use Rattle.header.specs.Steps.{vendor_magic_missing, bytes_follow, tail_not_erased}
 use Rattle.header.specs.Table.{Row, first_failing, header_rows, extent_rows}
 use Rattle.header.specs.declared.Inputs.{Inputs}
-use Rattle.image.specs.declared.Answer.{Answer}
 use Rattle.image.specs.Chunks.{hash_rows}
-use Rattle.image.specs.Answer.{image_of, answer_of}
+use Rattle.image.specs.Answer.{Answer, image_of, answer_of}
 
 -- S1 to S23, where S1 and S22 fail as told
 unfoldable pub check_rows : Bool → Bool → List ℕ → Inputs → List Row

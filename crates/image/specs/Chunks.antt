@@ -5,19 +5,10 @@
 use Rattle.std.specs.Prelude.{ℕ, zero, suc, ◌+◌, ◌*◌, List, [], ◌∷◌, ◌++◌, not, get_or, replicate}
 use Rattle.octets.specs.Read.{between, span_of, bytes_at, same}
 use Rattle.blake2s.specs.Rfc7693.{blake2s_of}
-use Rattle.sha256.specs.Fips180.{sha256_of}
 use Rattle.header.specs.Layout.{vendor_len, first_room}
 use Rattle.header.specs.Table.{Row, row}
 use Rattle.header.specs.declared.Refusal.{Refusal}
-use Rattle.image.specs.declared.chunks.Hash.{Hash}
-use Rattle.image.specs.declared.chunks.Hash.TheVariants.{Blake2s, Sha256}
 use Rattle.image.specs.Areas.{code_span_at}
-
--- ---- the digest of a family of images
-
-abbrev pub digest_by : Hash → List ℕ → List ℕ
-digest_by Blake2s = blake2s_of
-digest_by Sha256 = sha256_of
 
 -- ---- chunks of the code, by the room that chunk 1 has
 

@@ -3,9 +3,11 @@
 ghost use Rattle.std.specs.Prelude.{◌≡◌};
 ghost use Rattle.image.specs.Areas.{string_span, picture_span, code_span_at, code_span};
 
-use code_header::layout::{code_end_at, code_start_at};
-use header::layout::{key_count, picture_start, string_end, string_len, string_start, vendor_len};
-use octets::{Span, minus};
+use code_header::CodeHeader;
+use header::layout::{
+    firmware_header, key_count, picture_start, string_end, string_len, string_start, vendor_len,
+};
+use octets::Span;
 
 pub fn string_span(b: &[u8]) -> Span
     ensures { result ≡ string_span b.now }
@@ -22,22 +24,22 @@ pub fn picture_span(b: &[u8]) -> Span
 {
     Span {
         from: picture_start(key_count(b), string_len(b)),
-        to: minus(vendor_len(b) as usize, 65),
+        to: (vendor_len(b) as usize).saturating_sub(65),
     }
 }
 
 // The code behind a header that starts at an offset.
-pub fn code_span_at(b: &[u8], at: u32) -> Span
-    ensures { result ≡ code_span_at b.now at }
+pub fn code_span_at(header: CodeHeader<'_>) -> Span
+    ensures { result ≡ code_span_at header.entry.bytes.now header.entry.at }
 {
     Span {
-        from: code_start_at(at),
-        to: code_end_at(b, at),
+        from: header.code_start(),
+        to: header.code_end(),
     }
 }
 
 pub fn code_span(b: &[u8]) -> Span
     ensures { result ≡ code_span b.now }
 {
-    code_span_at(b, vendor_len(b))
+    code_span_at(firmware_header(b))
 }

@@ -1,3 +1,3 @@
 -- The laws that the proofs of installer cite.
+pub mod Numbers
 pub mod Parts
-pub mod Told

@@ -6,20 +6,19 @@ use mathlib.Core.Bool.{Bool, true, false}
 use mathlib.Core.List.{List, []}
 use native.Mathlib.Omega.{arith}
 use lib.ListN.{get_or, take, drop}
+use Rattle.std.specs.Prelude.{Ok, Err}
 use Rattle.octets.specs.Read.{u32_at, between}
 use Rattle.code_header.proofs.Facts as facts
 use Rattle.code_header.proofs.Facts.{in_time, time_passes, mask_signed, signed_mask}
 use Rattle.header.specs.Table.{first_failing}
 use Rattle.header.specs.declared.Refusal.{Refusal}
-use Rattle.header.specs.declared.Outcome.TheVariants.{Pass, Refused}
 use Rattle.header.proofs.Rows.{passes_here, pass_head, pass_tail}
 use Rattle.header.proofs.Facts.{keys_possible}
 use Rattle.image.specs.Answer.{image_at}
 use Rattle.image.specs.Parts.{when_accepted}
 use Rattle.image.specs.declared.Image.{Image}
-use Rattle.image.specs.declared.Answer.TheVariants.{Accepted, Rejected}
 use Rattle.image.proofs.Facts.{accepted, passed, told, image_is}
-use Rattle.signing.proofs.Laws.{outcome_is, refused_zeros}
+use Rattle.signing.proofs.Laws.{outcome_ok}
 use Rattle.loader.specs.declared.AreaInputs.{AreaInputs}
 use Rattle.loader.specs.Check.{TRZB, code_of, magic_missing, area_rows, check_area, check_card, check_internal}
 use Rattle.loader.specs.Digest.{digest_rows, loader_digest}
@@ -63,15 +62,15 @@ header_shaped b d =
     record { long = d.long; size = d.size; some = omega arith; whole = d.whole; most = d.most; zeros = d.zeros; gap = d.gap }
 
 -- its digest question
-question_passes : (b : List ℕ) → LoaderHeader b → first_failing (digest_rows b) ≡ Pass
+question_passes : (b : List ℕ) → LoaderHeader b → first_failing (digest_rows b) ≡ Ok tt
 unfolding digest_rows
 question_passes b d = sym (passes_here _ _ (magic_passes b d.magic) (sym (shape_passes b (header_shaped b d))))
 
-question_asks : (b : List ℕ) → first_failing (digest_rows b) ≡ Pass → LoaderHeader b
+question_asks : (b : List ℕ) → first_failing (digest_rows b) ≡ Ok tt → LoaderHeader b
 unfolding digest_rows
 question_asks b h = header_is b (pass_head _ _ _ h) (shaped b (pass_tail _ _ _ h))
 
-question_none : (b : List ℕ) → (take 4 b ≡ TRZB → ⊥) → first_failing (digest_rows b) ≡ Refused (record { number = 1; part = 2; chunk = 0 })
+question_none : (b : List ℕ) → (take 4 b ≡ TRZB → ⊥) → first_failing (digest_rows b) ≡ Err (record { number = 1; part = 2; chunk = 0 })
 unfolding digest_rows first_failing
 question_none b h = rw (magic_missing_lem b h)
 
@@ -80,9 +79,8 @@ unfolding loader_digest between
 loader_headers_answer =
     record {
       answered = λ b d. rw (question_passes b d);
-      only = λ b h. question_asks b (sym (outcome_is (first_failing (digest_rows b)) _) ∙ h);
-      refused = λ b r h. refused_zeros (first_failing (digest_rows b)) _ r h;
-      none = λ b h. outcome_is (first_failing (digest_rows b)) _ ∙ question_none b h;
+      only = λ b h. question_asks b (outcome_ok (first_failing (digest_rows b)) _ h);
+      none = λ b h. rw (question_none b h);
     }
 
 -- ---- one area
@@ -112,7 +110,7 @@ module _ (x : ℕ) (b : List ℕ) (given : AreaInputs) (verdict : Bool) where
         fix = refl;
       }
 
-  area_accepted : (i : Image) → check_area x b given verdict ≡ Accepted i → IsLoader x b given verdict i
+  area_accepted : (i : Image) → check_area x b given verdict ≡ Ok i → IsLoader x b given verdict i
   unfolding check_area
   area_accepted i h =
       subst (λ (j : Image). IsLoader x b given verdict j) (told (first_failing (area_rows x b given verdict)) (image_at b 0 0) i h) (own (each_group_passes x b given verdict (passed _ (image_at b 0 0) i h)))
@@ -138,20 +136,20 @@ module _ (x : ℕ) (b : List ℕ) (given : AreaInputs) (verdict : Bool) where
         hashes = hashes_pass b (omega arith) d.most (omega arith) (rw (← c) l.hash) l.unused;
       }
 
-  loader_accepted : (i : Image) → IsLoader x b given verdict i → check_area x b given verdict ≡ Accepted i
+  loader_accepted : (i : Image) → IsLoader x b given verdict i → check_area x b given verdict ≡ Ok i
   unfolding check_area
   loader_accepted i l =
       sym (accepted (all_groups_pass x b given verdict (rows_pass i l)) (sym (image_is i _ _ _ _ l.v l.codelen l.version l.fix)))
 
-  code_handed : (i : Image) → check_area x b given verdict ≡ Accepted i → when_accepted (check_area x b given verdict) (code_of b) ≡ take i.codelen (drop 1024 b)
+  code_handed : (i : Image) → check_area x b given verdict ≡ Ok i → when_accepted (check_area x b given verdict) (code_of b) ≡ take i.codelen (drop 1024 b)
   code_handed i h =
       let l = area_accepted i h in
       rw h (code_is b ∙ ap (λ (n : ℕ). take n (drop 1024 b)) (sym l.codelen))
 
-  code_none : (r : Refusal) → check_area x b given verdict ≡ Rejected r → when_accepted (check_area x b given verdict) (code_of b) ≡ []
+  code_none : (r : Refusal) → check_area x b given verdict ≡ Err r → when_accepted (check_area x b given verdict) (code_of b) ≡ []
   code_none r h = rw h
 
-  no_magic : (take 4 b ≡ TRZB → ⊥) → check_area x b given verdict ≡ Rejected (record { number = 1; part = 2; chunk = 0 })
+  no_magic : (take 4 b ≡ TRZB → ⊥) → check_area x b given verdict ≡ Err (record { number = 1; part = 2; chunk = 0 })
   unfolding check_area area_rows first_failing
   no_magic h = rw (magic_missing_lem b h)
 

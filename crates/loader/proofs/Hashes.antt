@@ -5,11 +5,11 @@ use mathlib.Core.Path.{◌≡◌, refl, sym, ap, ◌∙◌}
 use mathlib.Core.List.{List, []}
 use native.Mathlib.Omega.{arith}
 use lib.ListN.{length, get_or, take, drop, replicate}
+use Rattle.std.specs.Prelude.{Ok}
 use Rattle.octets.specs.Read.{u32_at, bytes_at}
 use Rattle.octets.proofs.Laws.{between_end}
 use Rattle.blake2s.specs.Rfc7693.{blake2s_of}
 use Rattle.header.specs.Table.{first_failing}
-use Rattle.header.specs.declared.Outcome.TheVariants.{Pass}
 use Rattle.image.specs.Chunks.{chunk_start, chunk, hash_of, hash_table_at, code_at}
 use Rattle.image.proofs.Hashes.{start_is, chunk_empty, hash_empty, hash_used, hash_at, chunk_rows_pass, chunk_rows_right}
 use Rattle.image.proofs.Facts.{length_part}
@@ -45,11 +45,11 @@ module _ (b : List ℕ) (some : 1 ≤ u32_at b 12) (most : u32_at b 12 ≤ 13004
   stands : (k : ℕ) → k < 16 → get_or (hash_table_at b 0) k [] ≡ bytes_at 32 b (32 + 32 * k)
   stands k h = hash_at 16 b 32 k h
 
-  pub hashes_right : first_failing (hash_rows b) ≡ Pass → bytes_at 32 b 32 ≡ blake2s_of (take (u32_at b 12) (drop 1024 b))
+  pub hashes_right : first_failing (hash_rows b) ≡ Ok tt → bytes_at 32 b 32 ≡ blake2s_of (take (u32_at b 12) (drop 1024 b))
   unfolding hash_rows
   hashes_right h = sym (stands 0 (omega arith)) ∙ sym (chunk_rows_right _ _ _ _ 0 16 h 0 (omega arith) (omega arith)) ∙ first_hash
 
-  pub hashes_unused : first_failing (hash_rows b) ≡ Pass → (k : ℕ) → 2 ≤ k → k ≤ 16 → bytes_at 32 b (32 * k) ≡ replicate 32 0
+  pub hashes_unused : first_failing (hash_rows b) ≡ Ok tt → (k : ℕ) → 2 ≤ k → k ≤ 16 → bytes_at 32 b (32 * k) ≡ replicate 32 0
   unfolding hash_rows
   hashes_unused h k g l =
       let e : 32 * k ≡ 32 + 32 * (k - 1) = omega arith in
@@ -58,7 +58,7 @@ module _ (b : List ℕ) (some : 1 ≤ u32_at b 12) (most : u32_at b 12 ≤ 13004
       ∙ sym (chunk_rows_right _ _ _ _ 0 16 h (k - 1) (omega arith) (omega arith))
       ∙ later_hash (k - 1) (omega arith)
 
-  pub hashes_pass : bytes_at 32 b 32 ≡ blake2s_of (take (u32_at b 12) (drop 1024 b)) → ((k : ℕ) → 2 ≤ k → k ≤ 16 → bytes_at 32 b (32 * k) ≡ replicate 32 0) → first_failing (hash_rows b) ≡ Pass
+  pub hashes_pass : bytes_at 32 b 32 ≡ blake2s_of (take (u32_at b 12) (drop 1024 b)) → ((k : ℕ) → 2 ≤ k → k ≤ 16 → bytes_at 32 b (32 * k) ≡ replicate 32 0) → first_failing (hash_rows b) ≡ Ok tt
   unfolding hash_rows
   hashes_pass e f = chunk_rows_pass _ _ _ _ 0 16 right
     where

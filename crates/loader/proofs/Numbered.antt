@@ -5,10 +5,10 @@ use mathlib.Core.Path.{◌≡◌}
 use mathlib.Core.Bool.{Bool}
 use mathlib.Core.List.{List}
 use native.Mathlib.Omega.{arith}
+use Rattle.std.specs.Prelude.{Err}
 use Rattle.header.specs.Table.{first_failing}
 use Rattle.header.specs.declared.Refusal.{Refusal}
 use Rattle.header.proofs.Rows.{Numbered, numbered_append, first_numbered, extent_numbered}
-use Rattle.image.specs.declared.Answer.TheVariants.{Rejected}
 use Rattle.image.proofs.Hashes.{chunks_numbered}
 use Rattle.image.proofs.Facts.{rejected_is}
 use Rattle.loader.specs.declared.AreaInputs.{AreaInputs}
@@ -33,6 +33,6 @@ rows_numbered x b given verdict =
     let policy = numbered_append (policy_rows b given verdict) _ (policy_numbered b given verdict) code in
     (omega arith, (omega arith, numbered_append (shape_rows b) _ (shape_numbered b) policy))
 
-pub area_numbered : (x : ℕ) (b : List ℕ) (given : AreaInputs) (verdict : Bool) (r : Refusal) → check_area x b given verdict ≡ Rejected r → 1 ≤ r.number
+pub area_numbered : (x : ℕ) (b : List ℕ) (given : AreaInputs) (verdict : Bool) (r : Refusal) → check_area x b given verdict ≡ Err r → 1 ≤ r.number
 unfolding check_area
 area_numbered x b given verdict r e = first_numbered (area_rows x b given verdict) r (rows_numbered x b given verdict) (rejected_is (first_failing (area_rows x b given verdict)) _ r e)

@@ -7,13 +7,13 @@ use mathlib.Core.List.{List}
 use lib.ListN.{length, get_or, take, drop}
 use lib.Dec.{eqb}
 use borrow.Author.Tests.{ltb-false, le-ltb, le-leb, eqb-true, not-false}
+use Rattle.std.specs.Prelude.{Ok}
 use Rattle.octets.specs.Read.{u32_at, between, all_are}
 use Rattle.octets.proofs.Laws.{and_left, and_right}
 use Rattle.code_header.specs.Tests.{expired, mask_wrong}
 use Rattle.code_header.proofs.Facts.{code_len_inside, inside_code_len}
 use Rattle.header.specs.Steps.{keys_impossible, policy_impossible}
 use Rattle.header.specs.Table.{first_failing}
-use Rattle.header.specs.declared.Outcome.TheVariants.{Pass}
 use Rattle.header.proofs.Facts.{passing_extent}
 use Rattle.header.proofs.Facts as facts
 use Rattle.header.proofs.Rows.{passes_here, stage_passes, ends, pass_head, pass_tail, stage_first, stage_then}
@@ -25,12 +25,12 @@ use Rattle.loader.specs.Check.{most_code, magic_missing, shape_rows, policy_rows
 pub record RowsPass (x : ℕ) (b : List ℕ) (given : AreaInputs) (verdict : Bool) : Type 0 where
   pub magic : magic_missing b ≡ false
   pub policy : keys_impossible given.m given.n ≡ false
-  pub shape : first_failing (shape_rows b) ≡ Pass
-  pub allowed : first_failing (policy_rows b given verdict) ≡ Pass
-  pub extent : first_failing (extent_rows x b) ≡ Pass
-  pub hashes : first_failing (hash_rows b) ≡ Pass
+  pub shape : first_failing (shape_rows b) ≡ Ok tt
+  pub allowed : first_failing (policy_rows b given verdict) ≡ Ok tt
+  pub extent : first_failing (extent_rows x b) ≡ Ok tt
+  pub hashes : first_failing (hash_rows b) ≡ Ok tt
 
-pub each_group_passes : (x : ℕ) (b : List ℕ) (given : AreaInputs) (verdict : Bool) → first_failing (area_rows x b given verdict) ≡ Pass → RowsPass x b given verdict
+pub each_group_passes : (x : ℕ) (b : List ℕ) (given : AreaInputs) (verdict : Bool) → first_failing (area_rows x b given verdict) ≡ Ok tt → RowsPass x b given verdict
 unfolding area_rows policy_impossible
 each_group_passes x b given verdict h =
     let p = pass_tail _ _ _ h in
@@ -46,7 +46,7 @@ each_group_passes x b given verdict h =
       hashes = stage_then (extent_rows x b) _ s;
     }
 
-pub all_groups_pass : (x : ℕ) (b : List ℕ) (given : AreaInputs) (verdict : Bool) → RowsPass x b given verdict → first_failing (area_rows x b given verdict) ≡ Pass
+pub all_groups_pass : (x : ℕ) (b : List ℕ) (given : AreaInputs) (verdict : Bool) → RowsPass x b given verdict → first_failing (area_rows x b given verdict) ≡ Ok tt
 unfolding area_rows policy_impossible
 all_groups_pass x b given verdict p =
     sym
@@ -67,7 +67,7 @@ pub record Shaped (b : List ℕ) : Type 0 where
   pub zeros : all_are 0 (take 8 (drop 24 b)) ≡ true
   pub gap : all_are 0 (take 415 (drop 544 b)) ≡ true
 
-pub shaped : (b : List ℕ) → first_failing (shape_rows b) ≡ Pass → Shaped b
+pub shaped : (b : List ℕ) → first_failing (shape_rows b) ≡ Ok tt → Shaped b
 unfolding shape_rows between
 shaped b h =
     let h14 = pass_tail _ _ _ h in
@@ -85,7 +85,7 @@ shaped b h =
       gap = and_right (all_are 0 (take 8 (drop 24 b))) _ z;
     }
 
-pub shape_passes : (b : List ℕ) → Shaped b → first_failing (shape_rows b) ≡ Pass
+pub shape_passes : (b : List ℕ) → Shaped b → first_failing (shape_rows b) ≡ Ok tt
 unfolding shape_rows between
 shape_passes b s =
     sym
@@ -104,14 +104,14 @@ pub record Allowed (b : List ℕ) (given : AreaInputs) (verdict : Bool) : Type 0
   pub signed : mask_wrong given.m given.n (get_or b 959 0) ≡ false
   pub agreed : verdict ≡ true
 
-pub allowed : (b : List ℕ) (given : AreaInputs) (verdict : Bool) → first_failing (policy_rows b given verdict) ≡ Pass → Allowed b given verdict
+pub allowed : (b : List ℕ) (given : AreaInputs) (verdict : Bool) → first_failing (policy_rows b given verdict) ≡ Ok tt → Allowed b given verdict
 unfolding policy_rows
 allowed b given verdict h =
     let h19 = pass_tail _ _ _ h in
     let h20 = pass_tail _ _ _ h19 in
     record { timely = pass_head _ _ _ h; signed = pass_head _ _ _ h19; agreed = not-false _ (pass_head _ _ _ h20) }
 
-pub policy_passes : (b : List ℕ) (given : AreaInputs) (verdict : Bool) → Allowed b given verdict → first_failing (policy_rows b given verdict) ≡ Pass
+pub policy_passes : (b : List ℕ) (given : AreaInputs) (verdict : Bool) → Allowed b given verdict → first_failing (policy_rows b given verdict) ≡ Ok tt
 unfolding policy_rows
 policy_passes b given verdict a =
     sym (passes_here _ _ a.timely (passes_here _ _ a.signed (passes_here _ _ (ap not a.agreed) ends)))
@@ -122,10 +122,10 @@ pub record Extends (x : ℕ) (b : List ℕ) : Type 0 where
   pub held : 1024 + u32_at b 12 ≤ length b
   pub tail : all_are x (drop (1024 + u32_at b 12) b) ≡ true
 
-pub extends : (x : ℕ) (b : List ℕ) → first_failing (extent_rows x b) ≡ Pass → Extends x b
+pub extends : (x : ℕ) (b : List ℕ) → first_failing (extent_rows x b) ≡ Ok tt → Extends x b
 unfolding extent_rows
 extends x b h = let e = facts.extent_passes _ b 0 h in record { held = e.held; tail = not-false _ e.tail }
 
-pub extent_passes : (x : ℕ) (b : List ℕ) → Extends x b → first_failing (extent_rows x b) ≡ Pass
+pub extent_passes : (x : ℕ) (b : List ℕ) → Extends x b → first_failing (extent_rows x b) ≡ Ok tt
 unfolding extent_rows
 extent_passes x b e = passing_extent (record { held = e.held; tail = ap not e.tail })

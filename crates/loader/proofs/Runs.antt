@@ -6,17 +6,16 @@ use mathlib.Core.Bool.{Bool}
 use mathlib.Core.List.{List}
 use native.Mathlib.Omega.{arith}
 use lib.ListN.{length}
+use Rattle.std.specs.Prelude.{Ok, Err}
 use Rattle.octets.specs.Read.{u32_at}
 use Rattle.header.specs.declared.Refusal.{Refusal}
 use Rattle.image.specs.declared.Image.{Image}
-use Rattle.image.specs.declared.Answer.{Answer}
-use Rattle.image.specs.declared.Answer.TheVariants.{Accepted, Rejected}
+use Rattle.image.specs.Answer.{Answer}
 use Rattle.image.proofs.Facts.{length_part}
 use Rattle.image.proofs.Parts.{part_taken}
 use Rattle.loader.specs.declared.AreaInputs.{AreaInputs}
 use Rattle.loader.specs.Check.{policy_rows, area_rows, check_area, check_card, check_internal}
 use Rattle.loader.specs.Choice.{chosen, choose, loader_of, part_of}
-use Rattle.loader.specs.declared.choice.Choice.TheVariants.{Neither}
 use Rattle.loader.specs.Theorems.{HandedBack, card_verdict, internal_verdict, AcceptedLoaderRuns}
 use Rattle.loader.proofs.Accepted.{loaders_are_accepted}
 
@@ -29,10 +28,10 @@ handed b i c h =
       long = length_part b 0 (1024 + u32_at b 12) (1024 + i.codelen) (omega arith) (omega arith);
     }
 
-card_handed : (b : List ℕ) (given : AreaInputs) (i : Image) → check_card b given ≡ Accepted i → HandedBack (loader_of b) b i
+card_handed : (b : List ℕ) (given : AreaInputs) (i : Image) → check_card b given ≡ Ok i → HandedBack (loader_of b) b i
 card_handed b given i h = let l = loaders_are_accepted.card b given i h in handed b i l.codelen l.held
 
-internal_handed : (b : List ℕ) (given : AreaInputs) (i : Image) → check_internal b given ≡ Accepted i → HandedBack (loader_of b) b i
+internal_handed : (b : List ℕ) (given : AreaInputs) (i : Image) → check_internal b given ≡ Ok i → HandedBack (loader_of b) b i
 internal_handed b given i h = let l = loaders_are_accepted.internal b given i h in handed b i l.codelen l.held
 
 -- each check reads its own verdict alone
@@ -46,15 +45,15 @@ card_same b given x = refl
 
 -- a refusal of the card says nothing more
 refused_same : (r s : Refusal) (a : Answer) (card other internal : List ℕ)
-    → (chosen (Rejected r) a ≡ chosen (Rejected s) a) × (part_of (chosen (Rejected r) a) card internal ≡ part_of (chosen (Rejected s) a) other internal)
-refused_same r s (Accepted i) card other internal = (refl, refl)
-refused_same r s (Rejected f) card other internal = (refl, refl)
+    → (chosen (Err r) a ≡ chosen (Err s) a) × (part_of (chosen (Err r) a) card internal ≡ part_of (chosen (Err s) a) other internal)
+refused_same r s (Ok i) card other internal = (refl, refl)
+refused_same r s (Err f) card other internal = (refl, refl)
 
 -- where there is none, the refusal is the internal one
-none_internal : (card internal : Answer) (s : Refusal) → chosen card internal ≡ Neither s → internal ≡ Rejected s
-none_internal (Accepted i) internal s e = cc
-none_internal (Rejected r) (Accepted i) s e = cc
-none_internal (Rejected r) (Rejected f) s e = cc
+none_internal : (card internal : Answer) (s : Refusal) → chosen card internal ≡ Err s → internal ≡ Err s
+none_internal (Ok i) internal s e = cc
+none_internal (Err r) (Ok i) s e = cc
+none_internal (Err r) (Err f) s e = cc
 
 pub accepted_loader_runs : AcceptedLoaderRuns
 unfolding choose

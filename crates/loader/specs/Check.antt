@@ -7,8 +7,7 @@ use Rattle.code_header.specs.Tests.{header_cut_at, magic_missing_at, hdr_len_wro
 use Rattle.header.specs.Steps.{policy_impossible}
 use Rattle.header.specs.Table.{Row, step, first_failing, extent_rows_at}
 use Rattle.image.specs.Chunks.{hash_table_at, code_at, chunk_rows}
-use Rattle.image.specs.Answer.{image_at, answer_of}
-use Rattle.image.specs.declared.Answer.{Answer}
+use Rattle.image.specs.Answer.{Answer, image_at, answer_of}
 use Rattle.loader.specs.declared.AreaInputs.{AreaInputs}
 
 -- the letters TRZB

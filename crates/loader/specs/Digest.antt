@@ -3,8 +3,7 @@
 use Rattle.std.specs.Prelude.{ℕ, List, ◌∷◌}
 use Rattle.blake2s.specs.Rfc7693.{blake2s_of}
 use Rattle.header.specs.Table.{Row, step, first_failing}
-use Rattle.signing.specs.Digests.{signed_at, answered}
-use Rattle.signing.specs.declared.Digest.{Digest}
+use Rattle.signing.specs.Digests.{Digest, signed_at, answered}
 use Rattle.loader.specs.Check.{magic_missing, shape_rows}
 
 -- what must hold: S1, the length, S14, S16 and S17

@@ -1,17 +1,16 @@
 -- What is shown of loaders: what an accepted one is, said of its bytes; that its header settles its code; and which one is handed back.
 -- Assumes nothing.
-use Rattle.std.specs.Prelude.{ℕ, ◌+◌, ◌*◌, ◌%◌, ◌≤◌, ◌≡◌, Bool, true, ◌⊎◌, List, [], ◌∷◌, ◌++◌, length, get_or, take, drop, replicate}
+use Rattle.std.specs.Prelude.{ℕ, ◌+◌, ◌*◌, ◌%◌, ◌≤◌, ◌≡◌, Bool, true, ◌⊎◌, List, [], ◌∷◌, ◌++◌, length, get_or, take, drop, replicate, Ok, Err}
+use Rattle.std.specs.Result.{IsOk}
 use Rattle.octets.specs.Read.{u32_at, bytes_at, all_are}
 use Rattle.blake2s.specs.Rfc7693.{blake2s_of}
 use Rattle.code_header.specs.Signers.{Signers}
 use Rattle.header.specs.declared.Refusal.{Refusal}
-use Rattle.header.specs.declared.Outcome.TheVariants.{Pass, Refused}
 use Rattle.image.specs.Parts.{when_accepted}
 use Rattle.image.specs.Difference.{OneCode}
 use Rattle.image.specs.declared.Image.{Image}
-use Rattle.image.specs.declared.Answer.TheVariants.{Accepted, Rejected}
 use Rattle.loader.specs.declared.AreaInputs.{AreaInputs}
-use Rattle.loader.specs.declared.choice.Choice.TheVariants.{Card, Internal, Neither}
+use Rattle.loader.specs.declared.choice.Area.TheVariants.{Card, Internal}
 use Rattle.loader.specs.Check.{code_of, check_card, check_internal}
 use Rattle.loader.specs.Digest.{loader_digest}
 use Rattle.loader.specs.Choice.{choose, part_of}
@@ -53,28 +52,28 @@ pub record IsLoader (x : ℕ) (b : List ℕ) (given : AreaInputs) (verdict : Boo
 
 -- a check accepts exactly such loaders, each area with its own tail and its own verdict
 pub record LoadersAreAccepted : Type 0 where
-  pub card : (b : List ℕ) (given : AreaInputs) (i : Image) → check_card b given ≡ Accepted i → IsLoader 0 b given given.card i
-  pub card_too : (b : List ℕ) (given : AreaInputs) (i : Image) → IsLoader 0 b given given.card i → check_card b given ≡ Accepted i
-  pub internal : (b : List ℕ) (given : AreaInputs) (i : Image) → check_internal b given ≡ Accepted i → IsLoader 255 b given given.internal i
-  pub internal_too : (b : List ℕ) (given : AreaInputs) (i : Image) → IsLoader 255 b given given.internal i → check_internal b given ≡ Accepted i
+  pub card : (b : List ℕ) (given : AreaInputs) (i : Image) → check_card b given ≡ Ok i → IsLoader 0 b given given.card i
+  pub card_too : (b : List ℕ) (given : AreaInputs) (i : Image) → IsLoader 0 b given given.card i → check_card b given ≡ Ok i
+  pub internal : (b : List ℕ) (given : AreaInputs) (i : Image) → check_internal b given ≡ Ok i → IsLoader 255 b given given.internal i
+  pub internal_too : (b : List ℕ) (given : AreaInputs) (i : Image) → IsLoader 255 b given given.internal i → check_internal b given ≡ Ok i
   -- the code that is handed back of an accepted loader: codelen bytes behind its header
-  pub card_code : (b : List ℕ) (given : AreaInputs) (i : Image) → check_card b given ≡ Accepted i → when_accepted (check_card b given) (code_of b) ≡ take i.codelen (drop 1024 b)
-  pub internal_code : (b : List ℕ) (given : AreaInputs) (i : Image) → check_internal b given ≡ Accepted i → when_accepted (check_internal b given) (code_of b) ≡ take i.codelen (drop 1024 b)
+  pub card_code : (b : List ℕ) (given : AreaInputs) (i : Image) → check_card b given ≡ Ok i → when_accepted (check_card b given) (code_of b) ≡ take i.codelen (drop 1024 b)
+  pub internal_code : (b : List ℕ) (given : AreaInputs) (i : Image) → check_internal b given ≡ Ok i → when_accepted (check_internal b given) (code_of b) ≡ take i.codelen (drop 1024 b)
   -- and none after a refusal
-  pub card_no_code : (b : List ℕ) (given : AreaInputs) (r : Refusal) → check_card b given ≡ Rejected r → when_accepted (check_card b given) (code_of b) ≡ []
-  pub internal_no_code : (b : List ℕ) (given : AreaInputs) (r : Refusal) → check_internal b given ≡ Rejected r → when_accepted (check_internal b given) (code_of b) ≡ []
+  pub card_no_code : (b : List ℕ) (given : AreaInputs) (r : Refusal) → check_card b given ≡ Err r → when_accepted (check_card b given) (code_of b) ≡ []
+  pub internal_no_code : (b : List ℕ) (given : AreaInputs) (r : Refusal) → check_internal b given ≡ Err r → when_accepted (check_internal b given) (code_of b) ≡ []
   -- a refusal has a number, so that 0 says accepted
-  pub card_number : (b : List ℕ) (given : AreaInputs) (r : Refusal) → check_card b given ≡ Rejected r → 1 ≤ r.number
-  pub internal_number : (b : List ℕ) (given : AreaInputs) (r : Refusal) → check_internal b given ≡ Rejected r → 1 ≤ r.number
+  pub card_number : (b : List ℕ) (given : AreaInputs) (r : Refusal) → check_card b given ≡ Err r → 1 ≤ r.number
+  pub internal_number : (b : List ℕ) (given : AreaInputs) (r : Refusal) → check_internal b given ≡ Err r → 1 ≤ r.number
   -- bytes that do not start with the magic, such as an empty card or an erased area, are refused with 1 under part 2, whatever the inputs
-  pub card_none : (b : List ℕ) (given : AreaInputs) → (take 4 b ≡ 84 ∷ 82 ∷ 90 ∷ 66 ∷ [] → ⊥) → check_card b given ≡ Rejected (record { number = 1; part = 2; chunk = 0 })
-  pub internal_none : (b : List ℕ) (given : AreaInputs) → (take 4 b ≡ 84 ∷ 82 ∷ 90 ∷ 66 ∷ [] → ⊥) → check_internal b given ≡ Rejected (record { number = 1; part = 2; chunk = 0 })
+  pub card_none : (b : List ℕ) (given : AreaInputs) → (take 4 b ≡ 84 ∷ 82 ∷ 90 ∷ 66 ∷ [] → ⊥) → check_card b given ≡ Err (record { number = 1; part = 2; chunk = 0 })
+  pub internal_none : (b : List ℕ) (given : AreaInputs) → (take 4 b ≡ 84 ∷ 82 ∷ 90 ∷ 66 ∷ [] → ⊥) → check_internal b given ≡ Err (record { number = 1; part = 2; chunk = 0 })
 
 -- ---- one header, one code
 
 -- accepted in one of the areas
 abbrev pub AcceptedLoader : List ℕ → AreaInputs → Image → Type 0
-AcceptedLoader b given i = (check_card b given ≡ Accepted i) ⊎ (check_internal b given ≡ Accepted i)
+AcceptedLoader b given i = (check_card b given ≡ Ok i) ⊎ (check_internal b given ≡ Ok i)
 
 -- loaders that are accepted under the same header, in any area and each with inputs of its own, are the same, or the lowest chunk in which they differ,
 -- which is chunk 1, has the same BLAKE2s digest in both (specification, 18.1)
@@ -87,10 +86,9 @@ OneLoaderHeaderOneCode =
 
 -- the digest question is answered exactly for such a header, by it with its last 65 bytes as zeros; else there is no digest
 pub record LoaderHeadersAnswer : Type 0 where
-  pub answered : (b : List ℕ) → LoaderHeader b → loader_digest b ≡ record { outcome = Pass; digest = blake2s_of (take 959 b ++ replicate 65 0) }
-  pub only : (b : List ℕ) → (loader_digest b).outcome ≡ Pass → LoaderHeader b
-  pub refused : (b : List ℕ) (r : Refusal) → (loader_digest b).outcome ≡ Refused r → (loader_digest b).digest ≡ replicate 32 0
-  pub none : (b : List ℕ) → (take 4 b ≡ 84 ∷ 82 ∷ 90 ∷ 66 ∷ [] → ⊥) → (loader_digest b).outcome ≡ Refused (record { number = 1; part = 2; chunk = 0 })
+  pub answered : (b : List ℕ) → LoaderHeader b → loader_digest b ≡ Ok (blake2s_of (take 959 b ++ replicate 65 0))
+  pub only : (b : List ℕ) → IsOk (loader_digest b) → LoaderHeader b
+  pub none : (b : List ℕ) → (take 4 b ≡ 84 ∷ 82 ∷ 90 ∷ 66 ∷ [] → ⊥) → loader_digest b ≡ Err (record { number = 1; part = 2; chunk = 0 })
 
 -- ---- what is chosen
 
@@ -108,21 +106,21 @@ internal_verdict x given = record { time = given.time; m = given.m; n = given.n;
 
 pub record AcceptedLoaderRuns : Type 0 where
   -- the card's, if it is accepted
-  pub card : (card internal : List ℕ) (given : AreaInputs) (i : Image) → check_card card given ≡ Accepted i
-      → (choose card internal given ≡ Card) × HandedBack (part_of (choose card internal given) card internal) card i
+  pub card : (card internal : List ℕ) (given : AreaInputs) (i : Image) → check_card card given ≡ Ok i
+      → (choose card internal given ≡ Ok Card) × HandedBack (part_of (choose card internal given) card internal) card i
   -- otherwise the internal one, if it is accepted
-  pub internal : (card internal : List ℕ) (given : AreaInputs) (r : Refusal) (i : Image) → check_card card given ≡ Rejected r → check_internal internal given ≡ Accepted i
-      → (choose card internal given ≡ Internal) × HandedBack (part_of (choose card internal given) card internal) internal i
+  pub internal : (card internal : List ℕ) (given : AreaInputs) (r : Refusal) (i : Image) → check_card card given ≡ Err r → check_internal internal given ≡ Ok i
+      → (choose card internal given ≡ Ok Internal) × HandedBack (part_of (choose card internal given) card internal) internal i
   -- otherwise none, and the internal refusal
-  pub neither : (card internal : List ℕ) (given : AreaInputs) (r s : Refusal) → check_card card given ≡ Rejected r → check_internal internal given ≡ Rejected s
-      → (choose card internal given ≡ Neither s) × (part_of (choose card internal given) card internal ≡ [])
+  pub neither : (card internal : List ℕ) (given : AreaInputs) (r s : Refusal) → check_card card given ≡ Err r → check_internal internal given ≡ Err s
+      → (choose card internal given ≡ Err s) × (part_of (choose card internal given) card internal ≡ [])
   -- and that refusal has a number, so that 0 says that a loader is handed back
-  pub number : (card internal : List ℕ) (given : AreaInputs) (s : Refusal) → choose card internal given ≡ Neither s → 1 ≤ s.number
+  pub number : (card internal : List ℕ) (given : AreaInputs) (s : Refusal) → choose card internal given ≡ Err s → 1 ≤ s.number
   -- what a card holds that is refused, and why, changes nothing
-  pub refused_card : (card other internal : List ℕ) (given : AreaInputs) (x : Bool) (r s : Refusal) → check_card card given ≡ Rejected r → check_card other (card_verdict x given) ≡ Rejected s
+  pub refused_card : (card other internal : List ℕ) (given : AreaInputs) (x : Bool) (r s : Refusal) → check_card card given ≡ Err r → check_card other (card_verdict x given) ≡ Err s
       → (choose card internal given ≡ choose other internal (card_verdict x given))
       × (part_of (choose card internal given) card internal ≡ part_of (choose other internal (card_verdict x given)) other internal)
   -- with a card that is accepted, neither the internal area nor the verdict on it matters
-  pub accepted_card : (card internal other : List ℕ) (given : AreaInputs) (x : Bool) (i : Image) → check_card card given ≡ Accepted i
+  pub accepted_card : (card internal other : List ℕ) (given : AreaInputs) (x : Bool) (i : Image) → check_card card given ≡ Ok i
       → (choose card internal given ≡ choose card other (internal_verdict x given))
       × (part_of (choose card internal given) card internal ≡ part_of (choose card other (internal_verdict x given)) card other)

@@ -1,20 +1,26 @@
--- Laws of the definitions of specs/Read.antt: parts, tests, masks. Most are one turn of a loop.
+-- Laws of the definitions of specs/Read.antt: parts, tests, masks.
 -- Assumes nothing.
 use mathlib.Core.Path.{◌≡◌, refl, sym, ap, ◌∙◌}
 use mathlib.Core.List.{List, [], ◌∷◌, ◌++◌}
 use mathlib.Core.Logic.{⊎_elim, ◌⊎◌, inl, inr}
 use mathlib.Core.Bool.{Bool, true, false, ◌&&◌, ◌||◌, and-true, and_assoc}
-use Prim.Native.Nat.{ℕ, zero, suc, ◌+◌, ◌-◌, ◌*◌, ◌^◌, ◌≤◌, ◌<◌}
+use Prim.Native.Nat.{ℕ, zero, suc, min, ◌+◌, ◌-◌, ◌*◌, ◌^◌, ◌≤◌, ◌<◌}
 use native.Mathlib.Numerals.{add-one}
 use native.Mathlib.Omega.{arith}
-use native.Mathlib.Nat.{add-zero, pow-suc}
-use lib.ListN.{length, get_or, take, drop, set, length-append, length-take, length-drop, drop_of_length-le, take-append-drop}
-use lib.Seq.{drop-cons, drop-drop, get_or-drop, take_all, take-suc, take-suc-set}
+use native.Mathlib.Nat.{pow-suc, zero-mul, suc-mul}
+use lib.ListN.{length, get_or, take, drop, set, length-append, length-take, length-drop, take-append-drop}
+use lib.Seq.{drop-drop, get_or-drop, take_all, take-suc, take-suc-set}
 use lib.Pow.{pow_mono}
 use lib.Dec.{ltb, eqb}
 use lib.Count.{count_leading_zeros, leading_length}
-use borrow.Author.Tests.{eqb-true, eq-eqb, ne_eqb, lt-ltb, le-ltb, le-leb, lt-leb, ltb-true, ltb-false}
-use Rattle.octets.specs.Read.{u16_at, u32_at, between, bytes_at, all_are, starts_with, same, bit_at_or_above}
+use borrow.Author.Tests.{eqb-true, eq-eqb, lt-ltb, le-ltb, le-leb, lt-leb, ltb-true, ltb-false}
+use Rattle.std.specs.List.{list_all, fold}
+use Rattle.std.specs.Simd.{first_chunks}
+use Rattle.std.specs.Cmp.Lexicographic.{pointwise}
+use Rattle.std.specs.Prelude.{nat_eq}
+use Rattle.std.proofs.lemmas.Bool.Decides.{nat_tests}
+use Rattle.std.proofs.lemmas.Slice.{between_is}
+use Rattle.octets.specs.Read.{between, bytes_at, all_are, starts_with, same, bit_at_or_above}
 
 -- a number is below another, or it is not
 pub split : (a b : ℕ) → (a < b) ⊎ (b ≤ a)
@@ -67,11 +73,12 @@ pub between_end : (a e : ℕ) (s : List ℕ) → length s ≤ e → between a e 
 unfolding between
 between_end a e s h = take_all (e - a) (drop a s) (rw length-drop (omega arith))
 
--- a part and what follows it
-pub between_rest : (a n : ℕ) (s : List ℕ) → between a (a + n) s ++ drop (a + n) s ≡ drop a s
+-- a part is the rest, from its start on, of the bytes up to its end
+pub between_cut : {n : ℕ} {r : List ℕ} (a e : ℕ) (s : List ℕ) → n ≡ min e (length s) → r ≡ drop a (take n s) → r ≡ between a e s
 unfolding between
-between_rest a n s =
-    let e : a + n - a ≡ n = omega arith in rw (e, ← drop-drop n a s) (take-append-drop n (drop a s))
+between_cut {n} {r} a e s m h =
+    let cut : take n s ≡ take e s = grind (arith, take_all) in
+    rw (cut, ← between_is s a e) at h
 
 -- a part that is one longer
 pub between_more : (a n : ℕ) (s : List ℕ) → a + n < length s → between a (a + (n + 1)) s ≡ between a (a + n) s ++ (get_or s (a + n) 0 ∷ [])
@@ -84,24 +91,9 @@ between_more a n s h =
 
 -- ---- what is left from an offset on
 
--- taken whole
-pub take_rest : (a : ℕ) (s : List ℕ) → take (length s - a) (drop a s) ≡ drop a s
-take_rest a s = take_all (length s - a) (drop a s) (rw length-drop (omega arith))
-
 -- its byte j is byte a + j of all
 pub byte_rest : {x : ℕ} {r : List ℕ} (s : List ℕ) (a j : ℕ) → r ≡ drop a s → x ≡ get_or r j 0 → x ≡ get_or s (a + j) 0
 byte_rest s a j e f = f ∙ rw (e, get_or-drop a s j 0)
-
--- the numbers at its start
-pub u16_rest : {r : List ℕ} {b0 b1 : ℕ} (s : List ℕ) (at : ℕ) → r ≡ drop at s → b0 ≡ get_or r 0 0 → b1 ≡ get_or r 1 0 → b0 + 256 * b1 ≡ u16_at s at
-unfolding u16_at
-u16_rest s at e f g = rw (byte_rest s at 0 e f, byte_rest s at 1 e g, add-zero at)
-
-pub u32_rest : {r : List ℕ} {b0 b1 b2 b3 : ℕ} (s : List ℕ) (at : ℕ) → r ≡ drop at s → b0 ≡ get_or r 0 0 → b1 ≡ get_or r 1 0 → b2 ≡ get_or r 2 0 → b3 ≡ get_or r 3 0
-    → b0 + 256 * b1 + 65536 * b2 + 16777216 * b3 ≡ u32_at s at
-unfolding u32_at
-u32_rest s at e f g h i =
-    rw (byte_rest s at 0 e f, byte_rest s at 1 e g, byte_rest s at 2 e h, byte_rest s at 3 e i, add-zero at)
 
 -- ---- the n bytes at an offset
 
@@ -116,7 +108,7 @@ unfolding bytes_at
 bytes_between zero b at h = sym (between_none at (at + 0) b (omega arith))
 bytes_between (suc n) b at h = rw (bytes_between n b at (omega arith), ← add-one n) (sym (between_more at n b (omega arith)))
 
--- a digest that is filled up to j gets its byte j
+-- an array that is filled up to j gets its byte j
 pub byte_more : {x : ℕ} (d b : List ℕ) (at j : ℕ) → j < length d → take j d ≡ bytes_at j b at → x ≡ get_or b (at + j) 0 → take (j + 1) (set d j x) ≡ bytes_at (j + 1) b at
 unfolding bytes_at
 byte_more d b at j h e f = rw (add-one, take-suc-set d j _ h, e, f)
@@ -128,58 +120,41 @@ pub all_append : (x : ℕ) (s t : List ℕ) → all_are x (s ++ t) ≡ (all_are 
 all_append x [] t = refl
 all_append x (y ∷ s) t = ap (λ (r : Bool). eqb y x && r) (all_append x s t) ∙ sym (and_assoc (eqb y x) (all_are x s) (all_are x t))
 
--- a run and what follows it
-pub all_run : (x a n : ℕ) (s : List ℕ) → all_are x (drop a s) ≡ (all_are x (between a (a + n) s) && all_are x (drop (a + n) s))
-all_run x a n s = ap (all_are x) (sym (between_rest a n s)) ∙ all_append x (between a (a + n) s) (drop (a + n) s)
+-- one by one, from an answer so far
+pub fold_all : (x : ℕ) (b : Bool) (s : List ℕ) → fold (λ (all : Bool) y. all && nat_eq y x) b s ≡ (b && all_are x s)
+fold_all x b [] = sym (and-true b)
+fold_all x b (y ∷ s) = fold_all x (b && eqb y x) s ∙ and_assoc b (eqb y x) (all_are x s)
 
--- the answer t on a run decides: false ends it, true leaves the rest
-pub run_answers : {r t : Bool} (x a n : ℕ) (s : List ℕ) → r ≡ all_are x (between a (a + n) s) → r ≡ t → all_are x (drop a s) ≡ (t && all_are x (drop (a + n) s))
-run_answers x a n s e h = all_run x a n s ∙ ap (λ (b : Bool). b && all_are x (drop (a + n) s)) (sym e ∙ h)
+-- one by one, in std's words
+pub list_all_are : (x : ℕ) (s : List ℕ) → list_all (λ y. nat_eq y x) s ≡ all_are x s
+list_all_are x [] = refl
+list_all_are x (y ∷ s) = ap (λ (r : Bool). eqb y x && r) (list_all_are x s)
 
--- a run that is one longer
-pub all_more : (x a n : ℕ) (s : List ℕ) → a + n < length s → all_are x (between a (a + (n + 1)) s) ≡ (all_are x (between a (a + n) s) && eqb (get_or s (a + n) 0) x)
-all_more x a n s h =
-    ap (all_are x) (between_more a n s h)
-    ∙ all_append x (between a (a + n) s) (get_or s (a + n) 0 ∷ [])
-    ∙ ap (λ (r : Bool). all_are x (between a (a + n) s) && r) (and-true (eqb (get_or s (a + n) 0) x))
+-- in runs of n bytes, and then the rest
+pub all_runs : (x n k : ℕ) (s : List ℕ) → (list_all (all_are x) (first_chunks n k s) && all_are x (drop (k * n) s)) ≡ all_are x s
+all_runs x n zero s = rw (zero-mul n)
+all_runs x n (suc k) s =
+    let e : suc k * n ≡ n + k * n = rw (suc-mul) (omega arith) in
+    rw (e, ← drop-drop (k * n) n s, and_assoc, all_runs x n k (drop n s), ← all_append x (take n s) (drop n s), take-append-drop n s)
 
--- a byte and what follows it
-pub all_step : (x : ℕ) (s : List ℕ) (i : ℕ) → i < length s → get_or s i 0 ≡ x → all_are x (drop i s) ≡ all_are x (drop (i + 1) s)
-all_step x s i h e = rw (add-one, drop-cons s i 0, eq-eqb (get_or s i 0) x e)
-
-pub all_stop : (x : ℕ) (s : List ℕ) (i : ℕ) → i < length s → (get_or s i 0 ≡ x → ⊥) → all_are x (drop i s) ≡ false
-all_stop x s i h e = rw (drop-cons s i 0, ne_eqb (get_or s i 0) x e)
-
-pub all_end : (x : ℕ) (s : List ℕ) (i : ℕ) → length s ≤ i → all_are x (drop i s) ≡ true
-all_end x s i h = rw (drop_of_length-le s {i = i} h)
+-- the answers for the runs and for the rest are that for the whole
+pub all_in_runs : {q r : Bool} {runs : List (List ℕ)} {tail : List ℕ} (x n k : ℕ) (s : List ℕ) → runs ≡ first_chunks n k s → tail ≡ drop (k * n) s
+    → q ≡ list_all (all_are x) runs → r ≡ all_are x tail → (q && r) ≡ all_are x s
+all_in_runs x n k s e f g h = rw (g, h, e, f) (all_runs x n k s)
 
 -- ---- a magic stands at the start
 
--- one byte of both agrees, differs, is missing, or the magic is over
-pub start_step : (m s : List ℕ) (i : ℕ) → i < length m → i < length s → get_or s i 0 ≡ get_or m i 0
-    → starts_with (drop i m) (drop i s) ≡ starts_with (drop (i + 1) m) (drop (i + 1) s)
-start_step m s i hm hs e = rw (add-one, drop-cons m i 0, drop-cons s i 0, eq-eqb (get_or s i 0) (get_or m i 0) e)
+-- a byte of each, in either order
+same_test : (x y : ℕ) → eqb x y ≡ eqb y x
+same_test x y = grind (arith, nat_tests)
 
-pub start_differ : (m s : List ℕ) (i : ℕ) → i < length m → i < length s → (get_or s i 0 ≡ get_or m i 0 → ⊥) → starts_with (drop i m) (drop i s) ≡ false
-start_differ m s i hm hs e = rw (drop-cons m i 0, drop-cons s i 0, ne_eqb (get_or s i 0) (get_or m i 0) e)
-
-pub start_short : (m s : List ℕ) (i : ℕ) → i < length m → length s ≤ i → starts_with (drop i m) (drop i s) ≡ false
-start_short m s i hm h = rw (drop-cons m i 0, drop_of_length-le s {i = i} h)
-
-pub start_end : (m s : List ℕ) (i : ℕ) → length m ≤ i → starts_with (drop i m) (drop i s) ≡ true
-start_end m s i h = rw (drop_of_length-le m {i = i} h)
+-- std's test, of the magic and as many of the bytes
+pub starts_is : (m s : List ℕ) → pointwise nat_eq m (take (length m) s) ≡ starts_with m s
+starts_is [] s = refl
+starts_is (x ∷ m) [] = refl
+starts_is (x ∷ m) (y ∷ s) = rw (same_test x y) (ap (λ (r : Bool). eqb y x && r) (starts_is m s))
 
 -- ---- two lists are the same
-
--- one byte of both agrees, differs, or both are over
-pub same_step : (a b : List ℕ) (i : ℕ) → i < length a → i < length b → get_or a i 0 ≡ get_or b i 0 → same (drop i a) (drop i b) ≡ same (drop (i + 1) a) (drop (i + 1) b)
-same_step a b i ha hb e = rw (add-one, drop-cons a i 0, drop-cons b i 0, eq-eqb (get_or a i 0) (get_or b i 0) e)
-
-pub same_differ : (a b : List ℕ) (i : ℕ) → i < length a → i < length b → (get_or a i 0 ≡ get_or b i 0 → ⊥) → same (drop i a) (drop i b) ≡ false
-same_differ a b i ha hb e = rw (drop-cons a i 0, drop-cons b i 0, ne_eqb (get_or a i 0) (get_or b i 0) e)
-
-pub same_end : (a b : List ℕ) (i : ℕ) → length a ≤ i → length b ≤ i → same (drop i a) (drop i b) ≡ true
-same_end a b i h g = rw (drop_of_length-le a {i = i} h, drop_of_length-le b {i = i} g)
 
 -- the answer true means equality
 pub same_self : (a : List ℕ) → same a a ≡ true

@@ -1,13 +1,14 @@
 -- A number and its bytes, least first: each is told by the other, by one division at a time.
 -- Assumes nothing.
-use mathlib.Core.Path.{◌≡◌, ◌∙◌}
+use mathlib.Core.Path.{◌≡◌, refl, ◌∙◌}
 use mathlib.Core.List.{List, [], ◌∷◌}
 use Prim.Native.Nat.{ℕ, ◌+◌, ◌*◌, ◌/◌, ◌%◌, ◌<◌}
 use native.Mathlib.Omega.{arith}
-use native.Mathlib.Nat.{div-add-mod'}
+use native.Mathlib.Nat.{div-add-mod', add-zero}
 use lib.ListN.{length, get_or}
 use lib.Seq.{take_all}
-use Rattle.octets.specs.Read.{u32_at, between, bytes_at}
+use Rattle.std.specs.Int.{to_le_bytes, from_le_bytes, w16, w32}
+use Rattle.octets.specs.Read.{u16_at, u32_at, between, bytes_at}
 use Rattle.octets.specs.Put.{le16, le32}
 use Rattle.octets.proofs.Laws.{bytes_between}
 
@@ -60,3 +61,30 @@ halves_of a b ha hb = rw (up a b ha, low a b ha, small b hb)
 -- four bytes make a number below 2 ^ 32
 pub word_below : (x y z w : ℕ) → x < 256 → y < 256 → z < 256 → w < 256 → x + 256 * y + 65536 * z + 16777216 * w < 4294967296
 word_below x y z w hx hy hz hw = omega arith
+
+-- ---- what std says of `to_le_bytes` and `from_le_bytes`
+
+-- the bytes of a number
+pub le16_bytes : (x : ℕ) → to_le_bytes w16 x ≡ le16 x
+le16_bytes x = refl
+
+pub le32_bytes : (x : ℕ) → to_le_bytes w32 x ≡ le32 x
+le32_bytes x = refl
+
+-- the number of bytes
+pub u16_from_bytes : (b : List ℕ) → from_le_bytes w16 b ≡ u16_at b 0
+unfolding u16_at
+u16_from_bytes b = omega arith
+
+pub u32_from_bytes : (b : List ℕ) → from_le_bytes w32 b ≡ u32_at b 0
+unfolding u32_at
+u32_from_bytes b = omega arith
+
+-- the number of the bytes at an offset
+pub u16_from_place : (s : List ℕ) (at : ℕ) → from_le_bytes w16 (bytes_at 2 s at) ≡ u16_at s at
+unfolding u16_at bytes_at
+u16_from_place s at = rw (add-zero at) (omega arith)
+
+pub u32_from_place : (s : List ℕ) (at : ℕ) → from_le_bytes w32 (bytes_at 4 s at) ≡ u32_at s at
+unfolding u32_at bytes_at
+u32_from_place s at = rw (add-zero at) (omega arith)

@@ -1,4 +1,4 @@
--- Laws of the definitions of specs/Put.antt: what one turn of a loop writes, and fields written one behind the other as one field.
+-- Laws of the definitions of specs/Put.antt: what a slice holds once a field is written, and fields written one behind the other as one field.
 -- Assumes nothing.
 use mathlib.Core.Path.{◌≡◌, sym, ap, ◌∙◌}
 use mathlib.Core.List.{List, [], ◌∷◌, ◌++◌, append_assoc}
@@ -6,8 +6,8 @@ use Prim.Native.Nat.{ℕ, ◌+◌, ◌≤◌, ◌<◌}
 use native.Mathlib.Omega.{arith}
 use native.Mathlib.Nat.{add-zero}
 use native.Mathlib.Numerals.{add-one}
-use lib.ListN.{length, set, take, drop, replicate, length-append, length-take, length-drop, length-replicate, get_or-replicate, take-append-drop}
-use lib.Seq.{take-length, take_at, drop-drop, paste, paste-suc, set_split, length-take-le, drop-append-add}
+use lib.ListN.{length, set, take, drop, length-append, length-take, length-drop, length-replicate, take-append-drop}
+use lib.Seq.{take-length, take_at, drop-drop, paste, set_split, length-take-le, drop-append-add}
 use Rattle.octets.specs.Put.{Put, splice, zeros}
 
 -- all bytes pasted
@@ -23,13 +23,6 @@ splice_one at x d h = rw (set_split d at x h, add-one at)
 pub length_zeros : (n : ℕ) → length (zeros n) ≡ n
 unfolding zeros
 length_zeros n = length-replicate n 0
-
--- one turn of the loop that writes zeros
-pub zeros_more : (d : List ℕ) (at n j : ℕ) → at + j < length d → j < n → set (paste d at (zeros n) j) (at + j) 0 ≡ paste d at (zeros n) (j + 1)
-unfolding zeros
-zeros_more d at n j hd hn =
-    rw (add-one j) (
-    rw (get_or-replicate {A = ℕ} n j 0 0 hn) at (paste-suc d at (replicate n 0) j 0 hd (omega (arith, length_zeros n))))
 
 pub length_splice : (at : ℕ) (s d : List ℕ) → at + length s ≤ length d → length (splice at s d) ≡ length d
 unfolding splice

@@ -1,45 +1,35 @@
 // Fields of lent bytes, read here and written in `put`.
 //
-// Every reader is total: a byte past the end reads as 0, a part has as many bytes as there are, a
-// difference stops at 0. So no caller has to test a length first, and no reader has a `requires`.
+// Every reader is total: a byte past the end reads as 0, and a part has as many bytes as there are. So
+// no caller has to test a length first, and no reader has a `requires`.
 // The functions of `put` that write have one: their callers, the writers, make sure of the room.
 #![tactic(auto)]
 
 pub mod put;
 pub mod theorems;
 
-ghost use Rattle.std.specs.Prelude.{◌≡◌, ◌+◌, ◌-◌, ◌≤◌, length, drop, get_or};
+ghost use Rattle.std.specs.Prelude.{◌≡◌, drop, get_or};
 ghost use Rattle.octets.specs.Read.{u16_at, u32_at, between, span_of, bytes_at, all_are, starts_with, same, ones_of, bit_at_or_above};
 
 // Where an area of the bytes stands: from an offset up to another.
-#[derive(Clone, Copy)]
+#[derive(Clone, Copy, PartialEq, Eq, Debug)]
 pub struct Span {
     pub from: usize,
     pub to: usize,
-}
-
-fn wide(x: u8) -> u32
-    ensures { result ≡ x }
-{
-    x as u32
 }
 
 // The byte at an offset.
 pub fn byte_at(s: &[u8], at: usize) -> u8
     ensures { result ≡ get_or s.now at 0 }
 {
-    if at < s.len() { s[at] } else { 0 }
+    s.get(at).copied().unwrap_or(0)
 }
 
 // The bytes from a up to e.
 pub fn part(s: &[u8], a: usize, e: usize) -> &[u8]
     ensures { result.now ≡ between a e s.now }
 {
-    if e <= s.len() {
-        if a <= e { &s[a..e] } else { &s[..0] }
-    } else {
-        if a <= s.len() { &s[a..] } else { &s[..0] }
-    }
+    rest(&s[..e.min(s.len())], a)
 }
 
 // The bytes of a span.
@@ -53,127 +43,76 @@ pub fn span_of(s: &[u8], span: Span) -> &[u8]
 pub fn rest(s: &[u8], a: usize) -> &[u8]
     ensures { result.now ≡ drop a s.now }
 {
-    if a <= s.len() { &s[a..] } else { &s[..0] }
+    &s[a.min(s.len())..]
+}
+
+// The N bytes at an offset, as an array.
+pub fn bytes_at<const N: usize>(s: &[u8], at: usize) -> [u8; N]
+    ensures { result ≡ bytes_at N s.now at }
+{
+    let r = rest(s, at);
+    let mut bytes = [0; N];
+    for j in 0..N {
+        bytes[j] = byte_at(r, j);
+    }
+    bytes
 }
 
 // The little-endian 16-bit number at an offset.
 pub fn u16_at(s: &[u8], at: usize) -> u32
     ensures { result ≡ u16_at s.now at }
 {
-    let r = rest(s, at);
-    wide(byte_at(r, 0)) + 256 * wide(byte_at(r, 1))
+    u32::from(u16::from_le_bytes(bytes_at(s, at)))
 }
 
 // The little-endian 32-bit number at an offset.
 pub fn u32_at(s: &[u8], at: usize) -> u32
     ensures { result ≡ u32_at s.now at }
 {
-    let r = rest(s, at);
-    wide(byte_at(r, 0))
-        + 256 * wide(byte_at(r, 1))
-        + 65536 * wide(byte_at(r, 2))
-        + 16777216 * wide(byte_at(r, 3))
+    u32::from_le_bytes(bytes_at(s, at))
 }
 
-// The 32 bytes at an offset, as a digest.
-pub fn digest_at(s: &[u8], at: usize) -> [u8; 32]
-    ensures { result ≡ bytes_at 32 s.now at }
+// Whether the 64 bytes of a run are all x. It looks at every one of them, so that the compiler can
+// take many at a time.
+fn run_is(run: &[u8; 64], x: u8) -> bool
+    ensures { result ≡ all_are x run.now }
 {
-    let r = rest(s, at);
-    let mut d: [u8; 32] = [0; 32];
-    let mut j: usize = 0;
-    while j < 32 {
-        d[j] = byte_at(r, j);
-        j += 1;
-    }
-    d
+    run.iter().fold(true, |all, b| all & (*b == x))
 }
 
-// The difference, 0 where b is the greater.
-pub fn minus(a: usize, b: usize) -> usize
-    ensures { result ≡ a - b }
-{
-    if b <= a { a - b } else { 0 }
-}
-
-// Whether the 64 bytes at an offset are all x. It looks at every one of them, so that the compiler
-// can take many at a time.
-fn run_is(s: &[u8], at: usize, x: u8) -> bool
-    requires { at + 64 ≤ length s.now }
-    ensures { result ≡ all_are x (between at (at + 64) s.now) }
-{
-    let mut all = true;
-    let mut j: usize = 0;
-    while j < 64 {
-        all = all & (s[at + j] == x);
-        j += 1;
-    }
-    all
-}
-
-// Whether every byte is x: 64 at a time, then the rest one by one. In one loop with both steps the
-// compiler shares their first byte, and half the speed is lost.
+// Whether every byte is x: 64 at a time, then the rest one by one.
 pub fn all_are(s: &[u8], x: u8) -> bool
     ensures { result ≡ all_are x s.now }
 {
-    let mut i: usize = 0;
-    while 64 <= s.len() - i {
-        if !run_is(s, i, x) {
-            return false;
-        }
-        i += 64;
-    }
-    while i < s.len() {
-        if s[i] != x {
-            return false;
-        }
-        i += 1;
-    }
-    true
+    let (runs, tail) = s.as_chunks::<64>();
+    runs.iter().all(|run| run_is(run, x)) && tail.iter().all(|b| *b == x)
 }
 
 // Whether the bytes start with a magic.
 pub fn starts_with(s: &[u8], magic: &[u8]) -> bool
     ensures { result ≡ starts_with magic.now s.now }
 {
-    let mut i: usize = 0;
-    while i < magic.len() {
-        if s.len() <= i {
-            return false;
-        }
-        if s[i] != magic[i] {
-            return false;
-        }
-        i += 1;
-    }
-    true
+    s.starts_with(magic)
 }
 
 // Whether two digests are the same.
 pub fn same_digest(a: [u8; 32], b: [u8; 32]) -> bool
     ensures { result ≡ same a b }
 {
-    let mut i: usize = 0;
-    while i < 32 {
-        if a[i] != b[i] {
-            return false;
-        }
-        i += 1;
-    }
-    true
+    a == b
 }
 
 // How many bits of a mask are set.
+#[tactic(auto, unfolding(crate::specs::Read::ones_of))]
 pub fn ones(mask: u8) -> u32
     ensures { result ≡ ones_of mask }
 {
-    u8::count_ones(mask) as u32
+    mask.count_ones()
 }
 
 // Whether a bit of the mask is set at n or higher: the leading zeros tell the highest set bit.
 pub fn bit_at_or_above(mask: u8, n: u32) -> bool
     ensures { result ≡ bit_at_or_above n mask }
 {
-    let zeros = u8::leading_zeros(mask) as u32;
-    n < 8 - zeros
+    n < 8 - mask.leading_zeros()
 }

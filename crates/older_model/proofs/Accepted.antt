@@ -11,14 +11,13 @@ use Rattle.code_header.specs.Layout.{code_end_at}
 use Rattle.code_header.specs.Tests.{bytes_follow_at, tail_not_at}
 use Rattle.header.specs.Table.{Row, refusal, first_failing}
 use Rattle.header.specs.declared.Refusal.{Refusal}
-use Rattle.header.specs.declared.Outcome.TheVariants.{Pass, Refused}
+use Rattle.std.specs.Prelude.{Ok, Err}
 use Rattle.header.proofs.Rows.{fails_here, Numbered, first_numbered}
 use Rattle.image.specs.Answer.{image_at, answer_of}
 use Rattle.image.specs.Chunks.{code_at}
 use Rattle.image.specs.Parts.{when_accepted}
 use Rattle.image.specs.declared.Image.{Image}
-use Rattle.image.specs.declared.Answer.{Answer}
-use Rattle.image.specs.declared.Answer.TheVariants.{Accepted, Rejected}
+use Rattle.image.specs.Answer.{Answer}
 use Rattle.image.proofs.Facts.{accepted, rejected, passed, told, rejected_is, image_is}
 use Rattle.older_model.specs.declared.OlderInputs.{OlderInputs}
 use Rattle.older_model.specs.Check.{v2_policy, v2_rows, alone_rows, pair_rows, check_v2_file, check_v2_slot, check_pair_file, check_pair_slot}
@@ -36,33 +35,33 @@ image_of b at given i s = image_is i _ _ _ _ s.v s.codelen s.version s.fix
 
 -- the rows of a form, whose V2 header starts at an offset
 pub record Form (rows : Bool → List ℕ → OlderInputs → List Row) (Is : List ℕ → OlderInputs → Image → Type 0) (at : ℕ) : Type 0 where
-  pub stands : (t : Bool) (b : List ℕ) (given : OlderInputs) → first_failing (rows t b given) ≡ Pass → Is b given (image_at b 0 at) × (t ≡ false)
-  pub passes : (t : Bool) (b : List ℕ) (given : OlderInputs) (i : Image) → Is b given i → t ≡ false → first_failing (rows t b given) ≡ Pass
+  pub stands : (t : Bool) (b : List ℕ) (given : OlderInputs) → first_failing (rows t b given) ≡ Ok tt → Is b given (image_at b 0 at) × (t ≡ false)
+  pub passes : (t : Bool) (b : List ℕ) (given : OlderInputs) (i : Image) → Is b given i → t ≡ false → first_failing (rows t b given) ≡ Ok tt
   pub v2 : (b : List ℕ) (given : OlderInputs) (i : Image) → Is b given i → IsV2 b at given i
   pub numbered : (t : Bool) (b : List ℕ) (given : OlderInputs) → Numbered (rows t b given)
-  pub sheet : (t : Bool) (b : List ℕ) (given : OlderInputs) → (KeySheet given.keys → ⊥) → first_failing (rows t b given) ≡ Refused (refusal 16 0)
+  pub sheet : (t : Bool) (b : List ℕ) (given : OlderInputs) → (KeySheet given.keys → ⊥) → first_failing (rows t b given) ≡ Err (refusal 16 0)
 
 module _ {rows : Bool → List ℕ → OlderInputs → List Row} {Is : List ℕ → OlderInputs → Image → Type 0} {at : ℕ} (form : Form rows Is at) where
   abbrev check : Bool → List ℕ → OlderInputs → Answer
   check t b given = answer_of (first_failing (rows t b given)) (image_at b 0 at)
 
-  is : (t : Bool) (b : List ℕ) (given : OlderInputs) (i : Image) → check t b given ≡ Accepted i → Is b given i × (t ≡ false)
+  is : (t : Bool) (b : List ℕ) (given : OlderInputs) (i : Image) → check t b given ≡ Ok i → Is b given i × (t ≡ false)
   is t b given i h =
       let s = form.stands t b given (passed _ (image_at b 0 at) i h) in
       (subst (λ (j : Image). Is b given j) (told (first_failing (rows t b given)) (image_at b 0 at) i h) s.0, s.1)
 
-  makes : (t : Bool) (b : List ℕ) (given : OlderInputs) (i : Image) → Is b given i → t ≡ false → check t b given ≡ Accepted i
+  makes : (t : Bool) (b : List ℕ) (given : OlderInputs) (i : Image) → Is b given i → t ≡ false → check t b given ≡ Ok i
   makes t b given i s e = sym (accepted (form.passes t b given i s e) (sym (image_of b at given i (form.v2 b given i s))))
 
-  code_handed : (t : Bool) (b : List ℕ) (given : OlderInputs) (i : Image) → check t b given ≡ Accepted i → when_accepted (check t b given) (code_at b at) ≡ take i.codelen (drop (at + 1024) b)
+  code_handed : (t : Bool) (b : List ℕ) (given : OlderInputs) (i : Image) → check t b given ≡ Ok i → when_accepted (check t b given) (code_at b at) ≡ take i.codelen (drop (at + 1024) b)
   code_handed t b given i h =
       let s = form.v2 b given i (is t b given i h).0 in
       rw h (code_is b at ∙ ap (λ (n : ℕ). take n (drop (at + 1024) b)) (sym s.codelen))
 
-  code_none : (t : Bool) (b : List ℕ) (given : OlderInputs) (r : Refusal) → check t b given ≡ Rejected r → when_accepted (check t b given) (code_at b at) ≡ []
+  code_none : (t : Bool) (b : List ℕ) (given : OlderInputs) (r : Refusal) → check t b given ≡ Err r → when_accepted (check t b given) (code_at b at) ≡ []
   code_none t b given r h = rw h
 
-  number : (t : Bool) (b : List ℕ) (given : OlderInputs) (r : Refusal) → check t b given ≡ Rejected r → 1 ≤ r.number
+  number : (t : Bool) (b : List ℕ) (given : OlderInputs) (r : Refusal) → check t b given ≡ Err r → 1 ≤ r.number
   number t b given r h = first_numbered (rows t b given) r (form.numbered t b given) (rejected_is (first_failing (rows t b given)) _ r h)
 
   no_sheet : (t : Bool) (b : List ℕ) (given : OlderInputs) → (KeySheet given.keys → ⊥) → check t b given ≡ refused 16 0

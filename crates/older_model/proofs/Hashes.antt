@@ -9,7 +9,7 @@ use lib.ListN.{length, get_or, take, drop, replicate, length-take, length-drop}
 use Rattle.octets.specs.Read.{u32_at, bytes_at, between}
 use Rattle.sha256.specs.Fips180.{sha256_of}
 use Rattle.header.specs.Table.{first_failing}
-use Rattle.header.specs.declared.Outcome.TheVariants.{Pass}
+use Rattle.std.specs.Prelude.{Ok}
 use Rattle.image.specs.Difference.{chunk_of}
 use Rattle.image.specs.Chunks.{chunk, hash_of, hash_table_at, code_at, chunk_rows}
 use Rattle.image.proofs.Hashes.{start_at, chunk_empty, hash_empty, hash_used, hash_at, chunk_rows_pass, chunk_rows_right}
@@ -69,19 +69,19 @@ module _ (b : List ℕ) (at : ℕ) (held : at + 1024 + u32_at b (at + 12) ≤ le
   stands : (k : ℕ) → k < 16 → get_or (hash_table_at b at) k [] ≡ bytes_at 32 b (at + 32 * suc k)
   stands k h = hash_at 16 b (at + 32) k h ∙ ap (bytes_at 32 b) (omega arith)
 
-  right_hash : first_failing (chunk_rows sha256_of first_room (code_at b at) (hash_table_at b at) 0 16) ≡ Pass → (k : ℕ) → k < 16
+  right_hash : first_failing (chunk_rows sha256_of first_room (code_at b at) (hash_table_at b at) 0 16) ≡ Ok tt → (k : ℕ) → k < 16
       → bytes_at 32 b (at + 32 * suc k) ≡ hash_of sha256_of (chunk first_room k (code_at b at))
   right_hash h k l = sym (stands k l) ∙ sym (chunk_rows_right _ _ _ _ 0 16 h k (omega arith) (omega arith))
 
-  pub hashes_used : first_failing (chunk_rows sha256_of first_room (code_at b at) (hash_table_at b at) 0 16) ≡ Pass → (k : ℕ) → 1 ≤ k → k ≤ 16 → Used k
+  pub hashes_used : first_failing (chunk_rows sha256_of first_room (code_at b at) (hash_table_at b at) 0 16) ≡ Ok tt → (k : ℕ) → 1 ≤ k → k ≤ 16 → Used k
   hashes_used h zero g l u = absurd (omega arith)
   hashes_used h (suc k) g l u = right_hash h k (omega arith) ∙ hash_of_used k u
 
-  pub hashes_unused : first_failing (chunk_rows sha256_of first_room (code_at b at) (hash_table_at b at) 0 16) ≡ Pass → (k : ℕ) → 1 ≤ k → k ≤ 16 → Unused k
+  pub hashes_unused : first_failing (chunk_rows sha256_of first_room (code_at b at) (hash_table_at b at) 0 16) ≡ Ok tt → (k : ℕ) → 1 ≤ k → k ≤ 16 → Unused k
   hashes_unused h zero g l u = absurd (omega arith)
   hashes_unused h (suc k) g l u = right_hash h k (omega arith) ∙ hash_of_unused k u
 
-  pub hashes_pass : ((k : ℕ) → 1 ≤ k → k ≤ 16 → Used k) → ((k : ℕ) → 1 ≤ k → k ≤ 16 → Unused k) → first_failing (chunk_rows sha256_of first_room (code_at b at) (hash_table_at b at) 0 16) ≡ Pass
+  pub hashes_pass : ((k : ℕ) → 1 ≤ k → k ≤ 16 → Used k) → ((k : ℕ) → 1 ≤ k → k ≤ 16 → Unused k) → first_failing (chunk_rows sha256_of first_room (code_at b at) (hash_table_at b at) 0 16) ≡ Ok tt
   hashes_pass used unused = chunk_rows_pass _ _ _ _ 0 16 (λ k g l. right k (omega arith))
     where
       right : (k : ℕ) → k < 16 → hash_of sha256_of (chunk first_room k (code_at b at)) ≡ get_or (hash_table_at b at) k []

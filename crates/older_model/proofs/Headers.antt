@@ -15,7 +15,7 @@ use Rattle.code_header.specs.Layout.{code_len_at}
 use Rattle.code_header.specs.Tests.{code_len_outside}
 use Rattle.code_header.proofs.Facts.{code_len_inside, inside_code_len, magic_stands, magic_passes, magic_missing_lem}
 use Rattle.header.specs.Table.{refusal, first_failing}
-use Rattle.header.specs.declared.Outcome.TheVariants.{Pass, Refused}
+use Rattle.std.specs.Prelude.{Ok, Err}
 use Rattle.header.proofs.Rows.{passes_here, fails_here, ends, pass_head, pass_tail}
 use Rattle.image.proofs.Parts.{part_taken}
 use Rattle.older_model.specs.Steps.{TRZR, TRZF, most_code, legacy_code_len, legacy_magic_missing, legacy_cut, legacy_code_len_wrong, legacy_bytes_not_zero, v2_code_len_wrong, code_len_other, v2_bytes_not_zero}
@@ -32,7 +32,7 @@ module _ (other : Bool) (b : List ℕ) (at : ℕ) where
   gap_at = part_taken b (at + 0x2E3) 285 (at + 0x2E3) (at + 1024) refl (omega arith)
 
   -- a header whose rows pass; and nothing else was wrong with its codelen
-  pub v2_is : first_failing (v2_shape other b at) ≡ Pass → V2Header b at
+  pub v2_is : first_failing (v2_shape other b at) ≡ Ok tt → V2Header b at
   unfolding v2_shape v2_code_len_wrong v2_bytes_not_zero
   v2_is h =
       let cut = pass_tail _ _ _ h in
@@ -54,13 +54,13 @@ module _ (other : Bool) (b : List ℕ) (at : ℕ) where
         gap = rw (← gap_at) (and_right (all_are 0 (between (at + 24) (at + 32) b)) _ z);
       }
 
-  pub v2_other : first_failing (v2_shape other b at) ≡ Pass → other ≡ false
+  pub v2_other : first_failing (v2_shape other b at) ≡ Ok tt → other ≡ false
   unfolding v2_shape v2_code_len_wrong
   v2_other h =
       let len = pass_tail _ _ _ (pass_tail _ _ _ (pass_tail _ _ _ h)) in
       or_right (code_len_outside most_code (code_len_at b at)) other (pass_head _ _ _ len)
 
-  pub v2_passes : V2Header b at → other ≡ false → first_failing (v2_shape other b at) ≡ Pass
+  pub v2_passes : V2Header b at → other ≡ false → first_failing (v2_shape other b at) ≡ Ok tt
   unfolding v2_shape v2_code_len_wrong v2_bytes_not_zero
   v2_passes d e =
       let some = d.some in
@@ -72,7 +72,7 @@ module _ (other : Bool) (b : List ℕ) (at : ℕ) where
       (passes_here _ _ (rw (zeros_at, gap_at, d.zeros, d.gap)) ends)))))
 
   -- a good header whose codelen is not what the one in front of it wants
-  pub v2_unlinked : V2Header b at → other ≡ true → first_failing (v2_shape other b at) ≡ Refused (refusal 12 2)
+  pub v2_unlinked : V2Header b at → other ≡ true → first_failing (v2_shape other b at) ≡ Err (refusal 12 2)
   unfolding v2_shape v2_code_len_wrong
   v2_unlinked d e =
       let some = d.some in
@@ -82,21 +82,21 @@ module _ (other : Bool) (b : List ℕ) (at : ℕ) where
       (passes_here _ _ (ap (λ (n : ℕ). not (eqb n 1024)) d.size)
       (fails_here _ _ (rw (inside_code_len most_code (code_len_at b at) (omega arith) d.whole d.most, e)) refl))))
 
-  pub v2_magic_missing : (take 4 (drop at b) ≡ TRZF → ⊥) → first_failing (v2_shape other b at) ≡ Refused (refusal 10 2)
+  pub v2_magic_missing : (take 4 (drop at b) ≡ TRZF → ⊥) → first_failing (v2_shape other b at) ≡ Err (refusal 10 2)
   unfolding v2_shape
   v2_magic_missing h = sym (fails_here _ _ (magic_missing_lem b at TRZF refl h) refl)
 
 -- ---- the legacy header
 
 module _ (b : List ℕ) where
-  pub legacy_magic_missing_lem : (take 4 b ≡ TRZR → ⊥) → first_failing (legacy_shape b) ≡ Refused (refusal 1 1)
+  pub legacy_magic_missing_lem : (take 4 b ≡ TRZR → ⊥) → first_failing (legacy_shape b) ≡ Err (refusal 1 1)
   unfolding legacy_shape legacy_magic_missing
   legacy_magic_missing_lem h = sym (fails_here _ _ (magic_missing_lem b 0 TRZR refl h) refl)
 
   legacy_zeros : between 11 64 b ≡ take 53 (drop 11 b)
   legacy_zeros = part_taken b 11 53 11 64 refl refl
 
-  pub legacy_is : first_failing (legacy_shape b) ≡ Pass → LegacyHeader b
+  pub legacy_is : first_failing (legacy_shape b) ≡ Ok tt → LegacyHeader b
   unfolding legacy_shape legacy_magic_missing legacy_cut legacy_code_len_wrong legacy_bytes_not_zero
   legacy_is h =
       let cut = pass_tail _ _ _ h in
@@ -113,7 +113,7 @@ module _ (b : List ℕ) where
         zeros = rw (← legacy_zeros) (not-false _ (pass_head _ _ _ zero));
       }
 
-  pub legacy_passes : LegacyHeader b → first_failing (legacy_shape b) ≡ Pass
+  pub legacy_passes : LegacyHeader b → first_failing (legacy_shape b) ≡ Ok tt
   unfolding legacy_shape legacy_magic_missing legacy_cut legacy_code_len_wrong legacy_bytes_not_zero
   legacy_passes d =
       sym

@@ -11,8 +11,8 @@ use Rattle.sha256.specs.Fips180.{sha256_of}
 use Rattle.header.proofs.Alike.{same_start_alike, u32_alike, bytes_alike}
 use Rattle.image.specs.Difference.{OneCode}
 use Rattle.image.specs.declared.Image.{Image}
-use Rattle.image.specs.declared.Answer.{Answer}
-use Rattle.image.specs.declared.Answer.TheVariants.{Accepted}
+use Rattle.image.specs.Answer.{Answer}
+use Rattle.std.specs.Prelude.{Ok}
 use Rattle.image.proofs.Difference.{one_image}
 use Rattle.older_model.specs.declared.OlderInputs.{OlderInputs}
 use Rattle.older_model.specs.Check.{check_v2_file, check_v2_slot, check_pair_file, check_pair_slot}
@@ -42,7 +42,7 @@ pub record Known (at : ℕ) (bytes : List ℕ → Image → List ℕ) (b : List 
   pub whole : take (at + 1024 + i.codelen) b ≡ bytes b i
 
 form_same : (check : List ℕ → OlderInputs → Answer) (at : ℕ) (bytes : List ℕ → Image → List ℕ)
-    → ((b : List ℕ) (given : OlderInputs) (i : Image) → check b given ≡ Accepted i → Known at bytes b given i) → FormOneCode check at bytes
+    → ((b : List ℕ) (given : OlderInputs) (i : Image) → check b given ≡ Ok i → Known at bytes b given i) → FormOneCode check at bytes
 form_same check at bytes known b c given other i j h g same =
     let x = known b given i h in
     let y = known c other j g in

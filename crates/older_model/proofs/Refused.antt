@@ -11,7 +11,7 @@ use Rattle.code_header.specs.Layout.{code_end_at}
 use Rattle.code_header.proofs.Facts.{magic_missing_lem, time_passes}
 use Rattle.header.specs.Table.{Row, refusal, first_failing, extent_rows_at}
 use Rattle.header.specs.declared.Refusal.{Refusal}
-use Rattle.header.specs.declared.Outcome.TheVariants.{Refused}
+use Rattle.std.specs.Prelude.{Err}
 use Rattle.header.proofs.Rows.{fails_here, passes_here, stage_passes, stage_fails}
 use Rattle.image.specs.Answer.{image_at, answer_of}
 use Rattle.image.proofs.Facts.{rejected}
@@ -26,24 +26,24 @@ use Rattle.older_model.proofs.Rows.{policy_passes, legacy_rows_pass}
 -- ---- the V2 header and the code
 
 module _ (other t : Bool) (b : List ℕ) (at : ℕ) (given : OlderInputs) where
-  pub v2_magic : (take 4 (drop at b) ≡ TRZF → ⊥) → Refused (refusal 10 2) ≡ first_failing (v2_rows other t b at given)
+  pub v2_magic : (take 4 (drop at b) ≡ TRZF → ⊥) → Err (refusal 10 2) ≡ first_failing (v2_rows other t b at given)
   unfolding v2_rows v2_shape
   v2_magic h = fails_here _ _ (magic_missing_lem b at TRZF refl h) refl
 
-  v2_indexes : V2Header b at → other ≡ false → Timely b at given → (ThreeKeys given.keys b (at + 0x2E0) → ⊥) → Refused (refusal 8 2) ≡ first_failing (v2_rows other t b at given)
+  v2_indexes : V2Header b at → other ≡ false → Timely b at given → (ThreeKeys given.keys b (at + 0x2E0) → ⊥) → Err (refusal 8 2) ≡ first_failing (v2_rows other t b at given)
   unfolding v2_rows v2_policy
   v2_indexes d e l h =
       stage_passes _ _ (sym (v2_passes other b at d e)) refl
       (passes_here _ _ (time_passes (u32_at b (at + 8)) given.time l) (fails_here _ _ (indexes_fail given.keys b (at + 0x2E0) h) refl))
 
-  v2_verdicts : V2Header b at → other ≡ false → Timely b at given → ThreeKeys given.keys b (at + 0x2E0) → (AllYes given.v2 → ⊥) → Refused (refusal 9 2) ≡ first_failing (v2_rows other t b at given)
+  v2_verdicts : V2Header b at → other ≡ false → Timely b at given → ThreeKeys given.keys b (at + 0x2E0) → (AllYes given.v2 → ⊥) → Err (refusal 9 2) ≡ first_failing (v2_rows other t b at given)
   unfolding v2_rows v2_policy
   v2_verdicts d e l k h =
       stage_passes _ _ (sym (v2_passes other b at d e)) refl
       (passes_here _ _ (time_passes (u32_at b (at + 8)) given.time l)
       (passes_here _ _ (indexes_pass given.keys b (at + 0x2E0) k) (fails_here _ _ (verdicts_fail given.v2 h) refl)))
 
-  v2_cut : V2Header b at → other ≡ false → Timely b at given → SignedByThree given.keys b (at + 0x2E0) given.v2 → length b < code_end_at b at → Refused (refusal 2 3) ≡ first_failing (v2_rows other t b at given)
+  v2_cut : V2Header b at → other ≡ false → Timely b at given → SignedByThree given.keys b (at + 0x2E0) given.v2 → length b < code_end_at b at → Err (refusal 2 3) ≡ first_failing (v2_rows other t b at given)
   unfolding v2_rows code_rows extent_rows_at
   v2_cut d e l s h =
       stage_passes _ _ (sym (v2_passes other b at d e)) refl
@@ -53,7 +53,7 @@ module _ (other t : Bool) (b : List ℕ) (at : ℕ) (given : OlderInputs) where
 
 -- where that holds, the answer of all rows is that of the V2 header's
 pub record Reaches (rows : Bool → List ℕ → OlderInputs → List Row) (Before : List ℕ → OlderInputs → Type 0) (other : List ℕ → Bool) (at : ℕ) : Type 0 where
-  pub reached : (t : Bool) (b : List ℕ) (given : OlderInputs) {r : Refusal} → Before b given → Refused r ≡ first_failing (v2_rows (other b) t b at given) → first_failing (rows t b given) ≡ Refused r
+  pub reached : (t : Bool) (b : List ℕ) (given : OlderInputs) {r : Refusal} → Before b given → Err r ≡ first_failing (v2_rows (other b) t b at given) → first_failing (rows t b given) ≡ Err r
   pub own : (b : List ℕ) (given : OlderInputs) → Before b given → other b ≡ false
 
 pub refuses_v2 : {rows : Bool → List ℕ → OlderInputs → List Row} {Before : List ℕ → OlderInputs → Type 0} {other : List ℕ → Bool} {at : ℕ} (tail : List ℕ → Bool) → Reaches rows Before other at
@@ -72,7 +72,7 @@ alone_before = record { reached = λ t b given s h. sym (passes_here _ _ (sheet_
 
 -- behind a good legacy header
 behind_legacy : (t : Bool) (b : List ℕ) (given : OlderInputs) {r : Refusal} → KeySheet given.keys → LegacyHeader b → SignedByThree given.keys b 8 given.legacy
-    → Refused r ≡ first_failing (v2_rows (code_len_other b) t b legacy_len given) → first_failing (pair_rows t b given) ≡ Refused r
+    → Err r ≡ first_failing (v2_rows (code_len_other b) t b legacy_len given) → first_failing (pair_rows t b given) ≡ Err r
 unfolding pair_rows
 behind_legacy t b given s l g h =
     sym (passes_here _ _ (sheet_passes given.keys s) (stage_passes _ _ (sym (legacy_rows_pass b given l g)) refl h))
@@ -87,27 +87,27 @@ pair_before =
 -- ---- the legacy header
 
 module _ (t : Bool) (b : List ℕ) (given : OlderInputs) where
-  legacy_magic : KeySheet given.keys → (take 4 b ≡ TRZR → ⊥) → first_failing (pair_rows t b given) ≡ Refused (refusal 1 1)
+  legacy_magic : KeySheet given.keys → (take 4 b ≡ TRZR → ⊥) → first_failing (pair_rows t b given) ≡ Err (refusal 1 1)
   unfolding pair_rows legacy_rows legacy_shape legacy_magic_missing
   legacy_magic s h = sym (passes_here _ _ (sheet_passes given.keys s) (fails_here _ _ (magic_missing_lem b 0 TRZR refl h) refl))
 
   -- a refusal of the legacy header's indexes or verdicts
-  legacy_refused : {r : Refusal} → KeySheet given.keys → LegacyHeader b → Refused r ≡ first_failing (legacy_policy b given) → first_failing (pair_rows t b given) ≡ Refused r
+  legacy_refused : {r : Refusal} → KeySheet given.keys → LegacyHeader b → Err r ≡ first_failing (legacy_policy b given) → first_failing (pair_rows t b given) ≡ Err r
   unfolding pair_rows legacy_rows
   legacy_refused s l h =
       sym
       (passes_here _ _ (sheet_passes given.keys s)
       (stage_fails (legacy_shape b ++ legacy_policy b given) _ (stage_passes _ _ (sym (legacy_passes b l)) refl h) refl refl))
 
-  legacy_indexes : (ThreeKeys given.keys b 8 → ⊥) → Refused (refusal 8 1) ≡ first_failing (legacy_policy b given)
+  legacy_indexes : (ThreeKeys given.keys b 8 → ⊥) → Err (refusal 8 1) ≡ first_failing (legacy_policy b given)
   unfolding legacy_policy
   legacy_indexes h = fails_here _ _ (indexes_fail given.keys b 8 h) refl
 
-  legacy_verdicts : ThreeKeys given.keys b 8 → (AllYes given.legacy → ⊥) → Refused (refusal 9 1) ≡ first_failing (legacy_policy b given)
+  legacy_verdicts : ThreeKeys given.keys b 8 → (AllYes given.legacy → ⊥) → Err (refusal 9 1) ≡ first_failing (legacy_policy b given)
   unfolding legacy_policy
   legacy_verdicts k h = passes_here _ _ (indexes_pass given.keys b 8 k) (fails_here _ _ (verdicts_fail given.legacy h) refl)
 
-  not_linked : V2Header b 256 → (u32_at b 4 ≡ u32_at b 268 + 1024 → ⊥) → Refused (refusal 12 2) ≡ first_failing (v2_rows (code_len_other b) t b legacy_len given)
+  not_linked : V2Header b 256 → (u32_at b 4 ≡ u32_at b 268 + 1024 → ⊥) → Err (refusal 12 2) ≡ first_failing (v2_rows (code_len_other b) t b legacy_len given)
   unfolding v2_rows
   not_linked d h = stage_fails (v2_shape (code_len_other b) b 256) _ (sym (v2_unlinked (code_len_other b) b 256 d (linked_fails b h))) refl refl
 

@@ -10,7 +10,7 @@ use Rattle.octets.specs.Read.{u32_at}
 use Rattle.code_header.specs.Layout.{code_end_at}
 use Rattle.code_header.proofs.Facts.{in_time, time_passes}
 use Rattle.header.specs.Table.{first_failing, extent_rows_at}
-use Rattle.header.specs.declared.Outcome.TheVariants.{Pass}
+use Rattle.std.specs.Prelude.{Ok}
 use Rattle.header.proofs.Facts.{extent_passes, passing_extent}
 use Rattle.header.proofs.Rows.{passes_here, ends, pass_head, pass_tail, stage_first, stage_then, stage_passes, Numbered, numbered_append, extent_numbered}
 use Rattle.sha256.specs.Fips180.{sha256_of}
@@ -29,13 +29,13 @@ use Rattle.older_model.proofs.Hashes.{hashes_used, hashes_unused, hashes_pass}
 -- ---- the V2 header and the code
 
 module _ (other tail_wrong : Bool) (b : List ℕ) (at : ℕ) (given : OlderInputs) where
-  policy_is : first_failing (v2_policy b at given) ≡ Pass → Timely b at given × SignedByThree given.keys b (at + 0x2E0) given.v2
+  policy_is : first_failing (v2_policy b at given) ≡ Ok tt → Timely b at given × SignedByThree given.keys b (at + 0x2E0) given.v2
   unfolding v2_policy
   policy_is h =
       let i = pass_tail _ _ _ h in
       (in_time (u32_at b (at + 8)) given.time (pass_head _ _ _ h), signed_is given.keys b (at + 0x2E0) given.v2 (pass_head _ _ _ i) (pass_head _ _ _ (pass_tail _ _ _ i)))
 
-  pub policy_passes : Timely b at given → SignedByThree given.keys b (at + 0x2E0) given.v2 → first_failing (v2_policy b at given) ≡ Pass
+  pub policy_passes : Timely b at given → SignedByThree given.keys b (at + 0x2E0) given.v2 → first_failing (v2_policy b at given) ≡ Ok tt
   unfolding v2_policy
   policy_passes t s =
       sym
@@ -49,7 +49,7 @@ module _ (other tail_wrong : Bool) (b : List ℕ) (at : ℕ) (given : OlderInput
     pub own : other ≡ false
     pub tail : tail_wrong ≡ false
 
-  pub v2_stands : KeySheet given.keys → first_failing (v2_rows other tail_wrong b at given) ≡ Pass → V2Stands
+  pub v2_stands : KeySheet given.keys → first_failing (v2_rows other tail_wrong b at given) ≡ Ok tt → V2Stands
   unfolding v2_rows code_rows
   v2_stands sheet h =
       let shape = stage_first (v2_shape other b at) _ h in
@@ -77,7 +77,7 @@ module _ (other tail_wrong : Bool) (b : List ℕ) (at : ℕ) (given : OlderInput
         tail = extent.tail;
       }
 
-  pub v2_rows_pass : (i : Image) → IsV2 b at given i → other ≡ false → tail_wrong ≡ false → first_failing (v2_rows other tail_wrong b at given) ≡ Pass
+  pub v2_rows_pass : (i : Image) → IsV2 b at given i → other ≡ false → tail_wrong ≡ false → first_failing (v2_rows other tail_wrong b at given) ≡ Ok tt
   unfolding v2_rows code_rows
   v2_rows_pass i s e f =
       let c = s.codelen in
@@ -91,13 +91,13 @@ module _ (other tail_wrong : Bool) (b : List ℕ) (at : ℕ) (given : OlderInput
 -- ---- the legacy header
 
 module _ (b : List ℕ) (given : OlderInputs) where
-  pub legacy_stands : first_failing (legacy_rows b given) ≡ Pass → LegacyHeader b × SignedByThree given.keys b 8 given.legacy
+  pub legacy_stands : first_failing (legacy_rows b given) ≡ Ok tt → LegacyHeader b × SignedByThree given.keys b 8 given.legacy
   unfolding legacy_rows legacy_policy
   legacy_stands h =
       let p = stage_then (legacy_shape b) _ h in
       (legacy_is b (stage_first (legacy_shape b) _ h), signed_is given.keys b 8 given.legacy (pass_head _ _ _ p) (pass_head _ _ _ (pass_tail _ _ _ p)))
 
-  pub legacy_rows_pass : LegacyHeader b → SignedByThree given.keys b 8 given.legacy → first_failing (legacy_rows b given) ≡ Pass
+  pub legacy_rows_pass : LegacyHeader b → SignedByThree given.keys b 8 given.legacy → first_failing (legacy_rows b given) ≡ Ok tt
   unfolding legacy_rows legacy_policy
   legacy_rows_pass l s =
       sym
@@ -107,15 +107,15 @@ module _ (b : List ℕ) (given : OlderInputs) where
 -- ---- the two forms
 
 module _ (tail_wrong : Bool) (b : List ℕ) (given : OlderInputs) where
-  pub alone_stands : first_failing (alone_rows tail_wrong b given) ≡ Pass → V2Stands false tail_wrong b 0 given
+  pub alone_stands : first_failing (alone_rows tail_wrong b given) ≡ Ok tt → V2Stands false tail_wrong b 0 given
   unfolding alone_rows
   alone_stands h = v2_stands false tail_wrong b 0 given (sheet_is given.keys (pass_head _ _ _ h)) (pass_tail _ _ _ h)
 
-  pub alone_passes : (i : Image) → IsV2 b 0 given i → tail_wrong ≡ false → first_failing (alone_rows tail_wrong b given) ≡ Pass
+  pub alone_passes : (i : Image) → IsV2 b 0 given i → tail_wrong ≡ false → first_failing (alone_rows tail_wrong b given) ≡ Ok tt
   unfolding alone_rows
   alone_passes i s f = sym (passes_here _ _ (sheet_passes given.keys s.sheet) (sym (v2_rows_pass false tail_wrong b 0 given i s refl f)))
 
-  pub pair_stands : first_failing (pair_rows tail_wrong b given) ≡ Pass → IsPair b given (image_at b 0 256) × (tail_wrong ≡ false)
+  pub pair_stands : first_failing (pair_rows tail_wrong b given) ≡ Ok tt → IsPair b given (image_at b 0 256) × (tail_wrong ≡ false)
   unfolding pair_rows
   pair_stands h =
       let p = pass_tail _ _ _ h in
@@ -123,7 +123,7 @@ module _ (tail_wrong : Bool) (b : List ℕ) (given : OlderInputs) where
       let s = v2_stands (code_len_other b) tail_wrong b 256 given (sheet_is given.keys (pass_head _ _ _ h)) (stage_then (legacy_rows b given) _ p) in
       (record { legacy = l.0; legacy_signed = l.1; linked = linked_is b s.own; v2 = s.image }, s.tail)
 
-  pub pair_passes : (i : Image) → IsPair b given i → tail_wrong ≡ false → first_failing (pair_rows tail_wrong b given) ≡ Pass
+  pub pair_passes : (i : Image) → IsPair b given i → tail_wrong ≡ false → first_failing (pair_rows tail_wrong b given) ≡ Ok tt
   unfolding pair_rows
   pair_passes i s f =
       sym

@@ -6,8 +6,7 @@ use Rattle.code_header.specs.Tests.{header_cut_at, magic_missing_at, hdr_len_wro
 use Rattle.header.specs.Table.{Row, step, first_failing, extent_rows_at}
 use Rattle.sha256.specs.Fips180.{sha256_of}
 use Rattle.image.specs.Chunks.{hash_table_at, code_at, chunk_rows}
-use Rattle.image.specs.Answer.{image_at, answer_of}
-use Rattle.image.specs.declared.Answer.{Answer}
+use Rattle.image.specs.Answer.{Answer, image_at, answer_of}
 use Rattle.older_model.specs.declared.OlderInputs.{OlderInputs}
 use Rattle.older_model.specs.Steps.{sheet_impossible, indexes_wrong_at, verdict_missing, legacy_len, legacy_indexes, legacy_magic_missing, legacy_cut, legacy_code_len_wrong, legacy_bytes_not_zero, TRZF, first_room, v2_indexes, v2_code_len_wrong, code_len_other, v2_bytes_not_zero}
 
@@ -75,13 +74,6 @@ pair_rows tail_wrong b given =
     step (sheet_impossible given.keys) 16 0
     ∷ (legacy_rows b given ++ v2_rows (code_len_other b) tail_wrong b legacy_len given)
 
--- the headers of each, before the code
-abbrev pub alone_headers : List ℕ → OlderInputs → List Row
-alone_headers b given = step (sheet_impossible given.keys) 16 0 ∷ v2_headers false b 0 given
-
-abbrev pub pair_headers : List ℕ → OlderInputs → List Row
-pair_headers b given = step (sheet_impossible given.keys) 16 0 ∷ (legacy_rows b given ++ v2_headers (code_len_other b) b legacy_len given)
-
 -- each as a file, where nothing follows the code, and in a slot, where erased bytes may
 unfoldable pub check_v2_file : List ℕ → OlderInputs → Answer
 check_v2_file b given = answer_of (first_failing (alone_rows (bytes_follow_at b 0) b given)) (image_at b 0 0)
@@ -94,6 +86,19 @@ check_pair_file b given = answer_of (first_failing (pair_rows (bytes_follow_at b
 
 unfoldable pub check_pair_slot : List ℕ → OlderInputs → Answer
 check_pair_slot b given = answer_of (first_failing (pair_rows (tail_not_at b legacy_len 255) b given)) (image_at b 0 legacy_len)
+
+-- ---- any form: by the rows that are asked in front of its V2 header, by what makes that header's codelen wrong otherwise, and by where it starts
+
+-- the key sheet and the headers, before the code
+abbrev pub form_headers : (List ℕ → OlderInputs → List Row) → (List ℕ → Bool) → ℕ → List ℕ → OlderInputs → List Row
+form_headers before other at b given = step (sheet_impossible given.keys) 16 0 ∷ (before b given ++ v2_headers (other b) b at given)
+
+-- all rows, where S22 fails as told
+abbrev pub form_rows : (List ℕ → OlderInputs → List Row) → (List ℕ → Bool) → ℕ → Bool → List ℕ → OlderInputs → List Row
+form_rows before other at tail_wrong b given = step (sheet_impossible given.keys) 16 0 ∷ (before b given ++ v2_rows (other b) tail_wrong b at given)
+
+abbrev pub form_check : (List ℕ → OlderInputs → List Row) → (List ℕ → Bool) → ℕ → Bool → List ℕ → OlderInputs → Answer
+form_check before other at tail_wrong b given = answer_of (first_failing (form_rows before other at tail_wrong b given)) (image_at b 0 at)
 
 -- ---- the code that is handed back
 

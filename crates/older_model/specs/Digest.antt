@@ -3,9 +3,8 @@
 use Rattle.std.specs.Prelude.{ℕ, ◌+◌, ◌-◌, List, [], ◌∷◌, ◌++◌, Bool, false, ltb, length, replicate}
 use Rattle.octets.specs.Read.{between}
 use Rattle.sha256.specs.Fips180.{sha256_of}
-use Rattle.header.specs.Table.{step, first_failing}
-use Rattle.signing.specs.Digests.{answered}
-use Rattle.signing.specs.declared.Digest.{Digest}
+use Rattle.header.specs.Table.{Row, step, first_failing}
+use Rattle.signing.specs.Digests.{Digest, answered}
 use Rattle.older_model.specs.Steps.{legacy_len, legacy_code_len, code_len_other}
 use Rattle.older_model.specs.Check.{legacy_shape, v2_shape}
 
@@ -33,6 +32,13 @@ v2_digest b = answered (first_failing (v2_shape false b 0)) (sha256_of (signed_v
 -- in the pair, where those of the legacy header hold too
 unfoldable pub pair_v2_digest : List ℕ → Digest
 pair_v2_digest b = answered (first_failing (legacy_shape b ++ v2_shape (code_len_other b) b legacy_len)) (sha256_of (signed_v2 b legacy_len))
+
+-- in any form: by the rows that are asked in front of the V2 header, by what makes its codelen wrong otherwise, and by where it starts
+abbrev pub form_shape : (List ℕ → List Row) → (List ℕ → Bool) → ℕ → List ℕ → List Row
+form_shape before other at b = before b ++ v2_shape (other b) b at
+
+abbrev pub form_digest : (List ℕ → List Row) → (List ℕ → Bool) → ℕ → List ℕ → Digest
+form_digest before other at b = answered (first_failing (form_shape before other at b)) (sha256_of (signed_v2 b at))
 
 -- ---- the legacy header
 

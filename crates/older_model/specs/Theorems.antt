@@ -1,17 +1,16 @@
 -- What is shown of the older model: what an accepted image is, said of its bytes; in which order the first steps refuse; that headers settle the code;
 -- and what is signed.
 -- Assumes nothing.
-use Rattle.std.specs.Prelude.{ℕ, ◌+◌, ◌-◌, ◌*◌, ◌%◌, ◌≤◌, ◌<◌, ◌≡◌, true, List, [], ◌∷◌, ◌++◌, length, get_or, take, drop, replicate}
+use Rattle.std.specs.Prelude.{ℕ, ◌+◌, ◌-◌, ◌*◌, ◌%◌, ◌≤◌, ◌<◌, ◌≡◌, true, List, [], ◌∷◌, ◌++◌, length, get_or, take, drop, replicate, Ok, Err}
 use Rattle.octets.specs.Read.{u32_at, bytes_at, all_are}
 use Rattle.sha256.specs.Fips180.{sha256_of}
 use Rattle.header.specs.declared.Refusal.{Refusal}
-use Rattle.header.specs.declared.Outcome.TheVariants.{Pass, Refused}
+use Rattle.std.specs.Result.{IsOk}
 use Rattle.image.specs.Parts.{when_accepted}
 use Rattle.image.specs.Difference.{chunk_of, OneCode}
 use Rattle.image.specs.declared.Image.{Image}
-use Rattle.image.specs.declared.Answer.{Answer}
-use Rattle.image.specs.declared.Answer.TheVariants.{Accepted, Rejected}
-use Rattle.signing.specs.declared.Digest.{Digest}
+use Rattle.image.specs.Answer.{Answer}
+use Rattle.signing.specs.Digests.{Digest}
 use Rattle.older_model.specs.declared.Verdicts.{Verdicts}
 use Rattle.older_model.specs.declared.OlderInputs.{OlderInputs}
 use Rattle.older_model.specs.Check.{check_v2_file, check_v2_slot, check_pair_file, check_pair_slot, v2_code, pair_code}
@@ -108,21 +107,21 @@ ErasedFrom b n = all_are 255 (drop n b) ≡ true
 
 -- a refusal that names no chunk
 abbrev pub refused : ℕ → ℕ → Answer
-refused number part = Rejected (record { number = number; part = part; chunk = 0 })
+refused number part = Err (record { number = number; part = part; chunk = 0 })
 
 -- the checks of one form accept exactly such images; they hand back their code, and none after a refusal; and a refusal has a number, so that 0 says
 -- accepted. A wrong key sheet is refused before all else, whatever the bytes are
 pub record Accepts (file slot : List ℕ → OlderInputs → Answer) (code : List ℕ → List ℕ) (Is : List ℕ → OlderInputs → Image → Type 0) (at : ℕ) : Type 0 where
-  pub file_is : (b : List ℕ) (given : OlderInputs) (i : Image) → file b given ≡ Accepted i → Is b given i × EndsAt b (at + 1024 + i.codelen)
-  pub is_file : (b : List ℕ) (given : OlderInputs) (i : Image) → Is b given i → EndsAt b (at + 1024 + i.codelen) → file b given ≡ Accepted i
-  pub slot_is : (b : List ℕ) (given : OlderInputs) (i : Image) → slot b given ≡ Accepted i → Is b given i × ErasedFrom b (at + 1024 + i.codelen)
-  pub is_slot : (b : List ℕ) (given : OlderInputs) (i : Image) → Is b given i → ErasedFrom b (at + 1024 + i.codelen) → slot b given ≡ Accepted i
-  pub file_code : (b : List ℕ) (given : OlderInputs) (i : Image) → file b given ≡ Accepted i → when_accepted (file b given) (code b) ≡ take i.codelen (drop (at + 1024) b)
-  pub slot_code : (b : List ℕ) (given : OlderInputs) (i : Image) → slot b given ≡ Accepted i → when_accepted (slot b given) (code b) ≡ take i.codelen (drop (at + 1024) b)
-  pub file_no_code : (b : List ℕ) (given : OlderInputs) (r : Refusal) → file b given ≡ Rejected r → when_accepted (file b given) (code b) ≡ []
-  pub slot_no_code : (b : List ℕ) (given : OlderInputs) (r : Refusal) → slot b given ≡ Rejected r → when_accepted (slot b given) (code b) ≡ []
-  pub file_number : (b : List ℕ) (given : OlderInputs) (r : Refusal) → file b given ≡ Rejected r → 1 ≤ r.number
-  pub slot_number : (b : List ℕ) (given : OlderInputs) (r : Refusal) → slot b given ≡ Rejected r → 1 ≤ r.number
+  pub file_is : (b : List ℕ) (given : OlderInputs) (i : Image) → file b given ≡ Ok i → Is b given i × EndsAt b (at + 1024 + i.codelen)
+  pub is_file : (b : List ℕ) (given : OlderInputs) (i : Image) → Is b given i → EndsAt b (at + 1024 + i.codelen) → file b given ≡ Ok i
+  pub slot_is : (b : List ℕ) (given : OlderInputs) (i : Image) → slot b given ≡ Ok i → Is b given i × ErasedFrom b (at + 1024 + i.codelen)
+  pub is_slot : (b : List ℕ) (given : OlderInputs) (i : Image) → Is b given i → ErasedFrom b (at + 1024 + i.codelen) → slot b given ≡ Ok i
+  pub file_code : (b : List ℕ) (given : OlderInputs) (i : Image) → file b given ≡ Ok i → when_accepted (file b given) (code b) ≡ take i.codelen (drop (at + 1024) b)
+  pub slot_code : (b : List ℕ) (given : OlderInputs) (i : Image) → slot b given ≡ Ok i → when_accepted (slot b given) (code b) ≡ take i.codelen (drop (at + 1024) b)
+  pub file_no_code : (b : List ℕ) (given : OlderInputs) (r : Refusal) → file b given ≡ Err r → when_accepted (file b given) (code b) ≡ []
+  pub slot_no_code : (b : List ℕ) (given : OlderInputs) (r : Refusal) → slot b given ≡ Err r → when_accepted (slot b given) (code b) ≡ []
+  pub file_number : (b : List ℕ) (given : OlderInputs) (r : Refusal) → file b given ≡ Err r → 1 ≤ r.number
+  pub slot_number : (b : List ℕ) (given : OlderInputs) (r : Refusal) → slot b given ≡ Err r → 1 ≤ r.number
   pub file_sheet : (b : List ℕ) (given : OlderInputs) → (KeySheet given.keys → ⊥) → file b given ≡ refused 16 0
   pub slot_sheet : (b : List ℕ) (given : OlderInputs) → (KeySheet given.keys → ⊥) → slot b given ≡ refused 16 0
 
@@ -177,7 +176,7 @@ pub record OlderImagesAreAccepted : Type 0 where
 -- differ is named, with the bytes of both, and these have the same SHA-256 digest. The bytes are all of a file, and in a slot those of the image
 abbrev pub FormOneCode : (List ℕ → OlderInputs → Answer) → ℕ → (List ℕ → Image → List ℕ) → Type 0
 FormOneCode check at bytes =
-    (b c : List ℕ) (given other : OlderInputs) (i j : Image) → check b given ≡ Accepted i → check c other ≡ Accepted j → take (at + 1024) b ≡ take (at + 1024) c
+    (b c : List ℕ) (given other : OlderInputs) (i j : Image) → check b given ≡ Ok i → check c other ≡ Ok j → take (at + 1024) b ≡ take (at + 1024) c
     → OneCode (bytes b i ≡ bytes c j) sha256_of 1280 (take i.codelen (drop (at + 1024) b)) (take j.codelen (drop (at + 1024) c))
 
 -- one header, one code (specification, 18.1)
@@ -195,23 +194,20 @@ v2_signed b at = take 0x220 (drop at b) ++ (replicate 195 0 ++ take 285 (drop (a
 
 -- the digest where a question is answered
 abbrev pub digest_of : List ℕ → Digest
-digest_of signed = record { outcome = Pass; digest = sha256_of signed }
+digest_of signed = Ok (sha256_of signed)
 
 -- each question is answered exactly for such headers, by the digest of what is signed; else there is no digest
 pub record OlderHeadersAnswer : Type 0 where
   pub v2 : (b : List ℕ) → V2Header b 0 → v2_digest b ≡ digest_of (v2_signed b 0)
-  pub v2_only : (b : List ℕ) → (v2_digest b).outcome ≡ Pass → V2Header b 0
-  pub v2_magic : (b : List ℕ) → (take 4 b ≡ 84 ∷ 82 ∷ 90 ∷ 70 ∷ [] → ⊥) → (v2_digest b).outcome ≡ Refused (record { number = 10; part = 2; chunk = 0 })
-  pub v2_refused : (b : List ℕ) (r : Refusal) → (v2_digest b).outcome ≡ Refused r → (v2_digest b).digest ≡ replicate 32 0
+  pub v2_only : (b : List ℕ) → IsOk (v2_digest b) → V2Header b 0
+  pub v2_magic : (b : List ℕ) → (take 4 b ≡ 84 ∷ 82 ∷ 90 ∷ 70 ∷ [] → ⊥) → v2_digest b ≡ Err (record { number = 10; part = 2; chunk = 0 })
   pub pair_v2 : (b : List ℕ) → LegacyHeader b → V2Header b 256 → u32_at b 4 ≡ u32_at b 268 + 1024 → pair_v2_digest b ≡ digest_of (v2_signed b 256)
-  pub pair_v2_only : (b : List ℕ) → (pair_v2_digest b).outcome ≡ Pass → LegacyHeader b × (V2Header b 256 × (u32_at b 4 ≡ u32_at b 268 + 1024))
-  pub pair_v2_magic : (b : List ℕ) → (take 4 b ≡ 84 ∷ 82 ∷ 90 ∷ 82 ∷ [] → ⊥) → (pair_v2_digest b).outcome ≡ Refused (record { number = 1; part = 1; chunk = 0 })
-  pub pair_v2_behind : (b : List ℕ) → LegacyHeader b → (take 4 (drop 256 b) ≡ 84 ∷ 82 ∷ 90 ∷ 70 ∷ [] → ⊥) → (pair_v2_digest b).outcome ≡ Refused (record { number = 10; part = 2; chunk = 0 })
-  pub pair_v2_unlinked : (b : List ℕ) → LegacyHeader b → V2Header b 256 → (u32_at b 4 ≡ u32_at b 268 + 1024 → ⊥) → (pair_v2_digest b).outcome ≡ Refused (record { number = 12; part = 2; chunk = 0 })
-  pub pair_v2_refused : (b : List ℕ) (r : Refusal) → (pair_v2_digest b).outcome ≡ Refused r → (pair_v2_digest b).digest ≡ replicate 32 0
+  pub pair_v2_only : (b : List ℕ) → IsOk (pair_v2_digest b) → LegacyHeader b × (V2Header b 256 × (u32_at b 4 ≡ u32_at b 268 + 1024))
+  pub pair_v2_magic : (b : List ℕ) → (take 4 b ≡ 84 ∷ 82 ∷ 90 ∷ 82 ∷ [] → ⊥) → pair_v2_digest b ≡ Err (record { number = 1; part = 1; chunk = 0 })
+  pub pair_v2_behind : (b : List ℕ) → LegacyHeader b → (take 4 (drop 256 b) ≡ 84 ∷ 82 ∷ 90 ∷ 70 ∷ [] → ⊥) → pair_v2_digest b ≡ Err (record { number = 10; part = 2; chunk = 0 })
+  pub pair_v2_unlinked : (b : List ℕ) → LegacyHeader b → V2Header b 256 → (u32_at b 4 ≡ u32_at b 268 + 1024 → ⊥) → pair_v2_digest b ≡ Err (record { number = 12; part = 2; chunk = 0 })
   -- the legacy header signs the codelen bytes behind it as they are. They must be there, and no more is asked of them
   pub legacy : (b : List ℕ) → LegacyHeader b → 256 + u32_at b 4 ≤ length b → pair_legacy_digest b ≡ digest_of (take (u32_at b 4) (drop 256 b))
-  pub legacy_only : (b : List ℕ) → (pair_legacy_digest b).outcome ≡ Pass → LegacyHeader b × (256 + u32_at b 4 ≤ length b)
-  pub legacy_cut : (b : List ℕ) → LegacyHeader b → length b < 256 + u32_at b 4 → (pair_legacy_digest b).outcome ≡ Refused (record { number = 2; part = 3; chunk = 0 })
-  pub legacy_magic : (b : List ℕ) → (take 4 b ≡ 84 ∷ 82 ∷ 90 ∷ 82 ∷ [] → ⊥) → (pair_legacy_digest b).outcome ≡ Refused (record { number = 1; part = 1; chunk = 0 })
-  pub legacy_refused : (b : List ℕ) (r : Refusal) → (pair_legacy_digest b).outcome ≡ Refused r → (pair_legacy_digest b).digest ≡ replicate 32 0
+  pub legacy_only : (b : List ℕ) → IsOk (pair_legacy_digest b) → LegacyHeader b × (256 + u32_at b 4 ≤ length b)
+  pub legacy_cut : (b : List ℕ) → LegacyHeader b → length b < 256 + u32_at b 4 → pair_legacy_digest b ≡ Err (record { number = 2; part = 3; chunk = 0 })
+  pub legacy_magic : (b : List ℕ) → (take 4 b ≡ 84 ∷ 82 ∷ 90 ∷ 82 ∷ [] → ⊥) → pair_legacy_digest b ≡ Err (record { number = 1; part = 1; chunk = 0 })

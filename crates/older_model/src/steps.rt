@@ -1,11 +1,12 @@
 // The tests, each true where its step fails.
+#![tactic(auto, unfolding(crate::specs::Steps::sheet_impossible, crate::specs::Steps::indexes_wrong_at, crate::specs::Steps::legacy_magic_missing, crate::specs::Steps::legacy_cut, crate::specs::Steps::legacy_code_len_wrong, crate::specs::Steps::legacy_bytes_not_zero, crate::specs::Steps::v2_code_len_wrong, crate::specs::Steps::code_len_other, crate::specs::Steps::v2_bytes_not_zero, octets::specs::Read::bytes_at))]
+
 ghost use Rattle.std.specs.Prelude.{◌≡◌};
 ghost use Rattle.older_model.specs.Steps.{sheet_impossible, no_key, indexes_wrong, indexes_wrong_at, verdict_missing, legacy_code_len, legacy_magic_missing, legacy_cut, legacy_code_len_wrong, legacy_bytes_not_zero, v2_code_len_wrong, code_len_other, v2_bytes_not_zero};
 
 use crate::Verdicts;
-use code_header::layout::code_len_at;
-use code_header::tests::{bytes_not_zero_at, code_len_wrong_at, magic_missing_at};
-use octets::{all_are, byte_at, part, rest, u32_at};
+use code_header::CodeHeader;
+use octets::{all_are, bytes_at, part, starts_with, u32_at};
 
 pub fn sheet_impossible(keys: u32) -> bool
     ensures { result ≡ sheet_impossible keys }
@@ -16,7 +17,7 @@ pub fn sheet_impossible(keys: u32) -> bool
 fn no_key(keys: u32, i: u8) -> bool
     ensures { result ≡ no_key keys i }
 {
-    (i == 0) | (keys < i as u32)
+    (i == 0) | (keys < u32::from(i))
 }
 
 fn indexes_wrong(keys: u32, i: u8, j: u8, k: u8) -> bool
@@ -28,8 +29,8 @@ fn indexes_wrong(keys: u32, i: u8, j: u8, k: u8) -> bool
 pub fn indexes_wrong_at(b: &[u8], at: usize, keys: u32) -> bool
     ensures { result ≡ indexes_wrong_at b.now at keys }
 {
-    let r = rest(b, at);
-    indexes_wrong(keys, byte_at(r, 0), byte_at(r, 1), byte_at(r, 2))
+    let [i, j, k]: [u8; 3] = bytes_at(b, at);
+    indexes_wrong(keys, i, j, k)
 }
 
 pub fn verdict_missing(x: Verdicts) -> bool
@@ -47,7 +48,7 @@ pub fn legacy_code_len(b: &[u8]) -> u32
 pub fn legacy_magic_missing(b: &[u8]) -> bool
     ensures { result ≡ legacy_magic_missing b.now }
 {
-    magic_missing_at(b, 0, b"TRZR")
+    !starts_with(part(b, 0, 4), b"TRZR")
 }
 
 pub fn legacy_cut(b: &[u8]) -> bool
@@ -69,20 +70,21 @@ pub fn legacy_bytes_not_zero(b: &[u8]) -> bool
     !all_are(part(b, 11, 64), 0)
 }
 
-pub fn v2_code_len_wrong(other: bool, b: &[u8], at: u32) -> bool
-    ensures { result ≡ v2_code_len_wrong other b.now at }
+pub fn v2_code_len_wrong(other: bool, header: CodeHeader<'_>) -> bool
+    ensures { result ≡ v2_code_len_wrong other header.entry.bytes.now header.entry.at }
 {
-    code_len_wrong_at(b, at, 2095872) | other
+    header.code_len_wrong(2095872) | other
 }
 
 pub fn code_len_other(b: &[u8]) -> bool
     ensures { result ≡ code_len_other b.now }
 {
-    code_len_at(b, 256) as usize + 1024 != legacy_code_len(b) as usize
+    let header = CodeHeader { bytes: b, at: 256 };
+    header.code_len() as usize + 1024 != legacy_code_len(b) as usize
 }
 
-pub fn v2_bytes_not_zero(b: &[u8], at: u32) -> bool
-    ensures { result ≡ v2_bytes_not_zero b.now at }
+pub fn v2_bytes_not_zero(header: CodeHeader<'_>) -> bool
+    ensures { result ≡ v2_bytes_not_zero header.entry.bytes.now header.entry.at }
 {
-    bytes_not_zero_at(b, at, 0x2E3, 1024)
+    header.bytes_not_zero(0x2E3, 1024)
 }

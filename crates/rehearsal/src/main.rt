@@ -14,100 +14,74 @@ mod images;
 mod table;
 
 use cuts::cut_each_way;
-use images::{new_image, old_image};
+use images::{FILE_LEN, PAGE_LEN, SLOT_LEN, image_of};
 use installer::{ask, begin, close, erase, fill};
-use octets::put::put_bytes;
-use octets::rest;
 use sessions::{Reply, Session, Turn};
 use std::io;
-use table::{
-    GIVEN, followed, no_calls, print_again_heading, print_cuts_heading, print_done, print_heading,
-    print_once, print_run,
-};
+use table::{GIVEN, Run, next_start, print_done, print_heading, print_heads, print_row};
 
-// An erase, or a fill with all bytes that are left: it takes no more of them than complete a word.
-fn call(erases: bool, session: Session, file: &[u8], slot: &mut [u8]) -> Turn {
-    if erases {
-        return erase(session, slot);
-    }
-    fill(session, rest(file, session.taken), slot)
-}
-
-// So many calls of one kind, under its name.
-fn repeat(
+// So many calls under one name, each with the record that the one before gave.
+fn repeat<C: Fn(Session, &mut [u8]) -> Turn>(
     rt: &impl Print,
-    name: &[u8],
-    erases: bool,
+    name: &str,
     count: usize,
-    before: Session,
-    file: &[u8],
+    mut session: Session,
     slot: &mut [u8],
-) -> io::Result<Session> {
-    let mut session = before;
-    let mut run = no_calls(1, slot);
-    let mut calls: usize = 0;
-    while calls < count {
-        calls += 1;
-        let turn = call(erases, session, file, slot);
-        session = turn.session;
-        run = followed(rt, name, run, calls, slot)?;
+    call: C,
+) -> io::Result<Session>
+    requires { C.IsAlwaysCallable call }
+{
+    let mut run = Run::new(name);
+    for number in 1..=count {
+        session = call(session, slot).session;
+        run = run.followed(rt, number, next_start(slot))?;
     }
-    print_run(rt, name, run)?;
+    run.print(rt)?;
     Ok(session)
-}
-
-fn is_done(reply: Reply) -> bool {
-    match reply {
-        Reply::Done => true,
-        _ => false,
-    }
 }
 
 // Close is to answer Done.
 fn close_session(rt: &impl Print, session: Session, slot: &mut [u8]) -> io::Result<()> {
     let turn = close(session, GIVEN, slot);
-    let reply = turn.reply;
-    if is_done(reply) {
-        print_once(rt, b"close, which answers Done         ", slot)?;
+    let start = next_start(slot);
+    if matches!(turn.reply, Reply::Done) {
+        print_row(rt, "close, which answers Done", start)?;
         print_done(rt, turn.session)
     } else {
-        print_once(rt, b"close, which is refused           ", slot)
+        print_row(rt, "close, which is refused", start)
     }
 }
 
 // Installs the file over what the slot holds: one erase more than it has pages, since the first stores
-// zero in word 0, and a fill for each word.
+// zero in word 0, and a fill for each word. A fill is given all bytes that are left: it takes no more of
+// them than complete a word.
 fn install(rt: &impl Print, file: &[u8], slot: &mut [u8]) -> io::Result<()> {
     let begun = begin(slot, file.len());
-    print_once(rt, b"begin                             ", slot)?;
-    let erases = slot.len() / 4096 + 1;
+    print_row(rt, "begin", next_start(slot))?;
+    let pages = slot.len() / PAGE_LEN;
     let words = file.len() / 4;
-    let erased = repeat(rt, b"erase ", true, erases, begun.session, file, slot)?;
-    let filled = repeat(rt, b"fill ", false, words, erased, file, slot)?;
+    let erased = repeat(rt, "erase", pages + 1, begun.session, slot, erase)?;
+    let filled = repeat(rt, "fill", words, erased, slot, |session, slot| {
+        let rest = file.get(session.taken..).unwrap_or(&[]);
+        fill(session, rest, slot)
+    })?;
     ask(filled, slot);
-    print_once(rt, b"ask                               ", slot)?;
+    print_row(rt, "ask", next_start(slot))?;
     close_session(rt, filled, slot)
 }
 
-// The old image fills the slot.
-fn rehearse(
-    rt: &impl Print,
-    old: &[u8; 65536],
-    new: &[u8; 1540],
-    slot: &mut [u8; 65536],
-) -> io::Result<()> {
-    put_bytes(slot, 0, old);
-    print_heading(rt, slot, new)?;
-    install(rt, new, slot)?;
-    print_cuts_heading(rt)?;
-    cut_each_way(rt, old, slot)?;
-    print_again_heading(rt)?;
-    install(rt, new, slot)
-}
-
 fn main(rt: HostRuntime) -> io::Result<()> {
-    let old = old_image();
-    let new = new_image();
-    let mut slot = [255u8; 65536];
-    rehearse(&rt, &old, &new, &mut slot)
+    let new: [u8; FILE_LEN] = image_of(2);
+    let old: [u8; SLOT_LEN] = image_of(1);
+    let mut slot = old;
+    print_heading(&rt, &slot, &new)?;
+    install(&rt, &new, &mut slot)?;
+    println!(rt; "\nVersion 1.0.0 is put back, and the power fails inside the erase of a page.\n")?;
+    print_heads(&rt, "erased by then, in erase")?;
+    cut_each_way(&rt, &old, &mut slot)?;
+    println!(rt;
+        "\nIt fails inside erase 2, which leaves the odd words erased. A new session follows.\n"
+    )?;
+    print_heads(&rt, "if the power fails after")?;
+    install(&rt, &new, &mut slot)
 }

@@ -10,6 +10,7 @@ use lib.Dec.{eqb}
 use borrow.Author.Tests.{lt-ltb}
 use lib.ListN.{length, take, drop}
 use lib.Seq.{take-take}
+use Rattle.std.specs.Prelude.{Ok, Err}
 use Rattle.flash.specs.Flash.{erased_bytes, starts_erased}
 use Rattle.flash.specs.Operation.{word_of, performed, interrupted}
 use Rattle.flash.specs.Interrupted.{OldOrErased}
@@ -17,8 +18,7 @@ use Rattle.flash.specs.declared.Operation.{Operation}
 use Rattle.flash.specs.declared.Operation.TheVariants.{Nothing, ErasePage, StoreWord}
 use Rattle.flash.proofs.Interrupted.{erase_leaves, store_interrupted}
 use Rattle.image.specs.Check.{check_file}
-use Rattle.image.specs.declared.Answer.{Answer}
-use Rattle.image.specs.declared.Answer.TheVariants as answer
+use Rattle.image.specs.Answer.{Answer}
 use Rattle.image.proofs.Erased.{erased_or_zero_refused}
 use Rattle.sessions.specs.Record.{pages_of, no_word, filling, full}
 use Rattle.sessions.specs.Calls.{taken_by, joined, word_at, in_first_word, filled, file_in, close_by}
@@ -97,8 +97,8 @@ close_erases_none s v slot = go (full s (length slot)) refl (starts_erased slot)
     go : (a : Bool) → full s (length slot) ≡ a → (b : Bool) → starts_erased slot ≡ b → (v : Answer) → is_erase (close_by s v slot).operation ≡ false
     go false h b i v = rw h
     go true h false i v = rw (h, i)
-    go true h true i (answer.Rejected r) = rw (h, i)
-    go true h true i (answer.Accepted x) = rw (h, i)
+    go true h true i (Err r) = rw (h, i)
+    go true h true i (Ok x) = rw (h, i)
 
 module _ (found : List ℕ) (f : ℕ) where
   -- ---- the slot in each phase

@@ -9,14 +9,14 @@ use native.Mathlib.Omega.{arith}
 use lib.Dec.{eqb, ltb}
 use borrow.Author.Tests.{ltb-true, ltb-false, lt-ltb, le-ltb, le-leb, lt-leb, ne_eqb}
 use lib.ListN.{length}
+use Rattle.std.specs.Prelude.{Ok, Err}
 use Rattle.flash.specs.Flash.{erased_bytes}
 use Rattle.flash.specs.Operation.{word_of}
 use Rattle.flash.specs.declared.Operation.TheVariants.{ErasePage, StoreWord}
 use Rattle.header.specs.declared.Inputs.{Inputs}
 use Rattle.image.specs.Check.{check_file, check_slot}
 use Rattle.image.specs.declared.Image.{Image}
-use Rattle.image.specs.declared.Answer.{Answer}
-use Rattle.image.specs.declared.Answer.TheVariants as answer
+use Rattle.image.specs.Answer.{Answer}
 use Rattle.signing.specs.Digests.{vendor_digest, firmware_digest}
 use Rattle.signing.specs.Places.{no_signature, vendor_signature, firmware_signature}
 use Rattle.image.proofs.Erased.{accepted_before_erased}
@@ -34,7 +34,7 @@ use Rattle.sessions.proofs.Cuts.{after_made, says, zero_next, page_next, cut}
 
 -- ---- the boot check, by the law of image
 
-landed_boots : (file : List ℕ) (n : ℕ) (given : Inputs) (i : Image) → check_file file given ≡ answer.Accepted i → check_slot (file ++ erased_bytes n) given ≡ answer.Accepted i
+landed_boots : (file : List ℕ) (n : ℕ) (given : Inputs) (i : Image) → check_file file given ≡ Ok i → check_slot (file ++ erased_bytes n) given ≡ Ok i
 unfolding erased_bytes
 landed_boots file n given i e = accepted_before_erased file n given i e
 
@@ -176,12 +176,12 @@ module _ (found : List ℕ) (f : ℕ) where
       signs false g = (barred_answers p (close_before_last found f p e g)).signs
 
       done : (v : Answer) → (turn_of (judged p.now.session v)).reply ≡ done_by v
-      done (answer.Accepted i) = refl
-      done (answer.Rejected r) = refl
+      done (Ok i) = refl
+      done (Err r) = refl
 
       accepts : (v : Answer) → (judged p.now.session v).reply ≡ accepted_by v
-      accepts (answer.Accepted i) = refl
-      accepts (answer.Rejected r) = refl
+      accepts (Ok i) = refl
+      accepts (Err r) = refl
 
       closes : (given : Inputs) (g : Bool) → all_given f p.past ≡ g → close_answer given p.now ≡ cond g (done_by (check_file p.past.given given)) (Refused 19)
       closes given true g =

@@ -11,6 +11,7 @@ use lib.Dec.{eqb}
 use borrow.Author.Tests.{eqb-true, eqb-false, leb-true, ne_eqb}
 use lib.ListN.{length, drop}
 use lib.Seq.{paste, paste-zero}
+use Rattle.std.specs.Prelude.{Ok, Err}
 use Rattle.flash.specs.Flash.{starts_erased}
 use Rattle.flash.specs.Operation.{word_of}
 use Rattle.flash.specs.declared.Word.{Word}
@@ -18,8 +19,7 @@ use Rattle.flash.specs.declared.Operation.{Operation}
 use Rattle.flash.specs.declared.Operation.TheVariants.{Nothing, ErasePage, StoreWord}
 use Rattle.header.specs.declared.Inputs.{Inputs}
 use Rattle.image.specs.Check.{check_file}
-use Rattle.image.specs.declared.Answer.{Answer}
-use Rattle.image.specs.declared.Answer.TheVariants as answer
+use Rattle.image.specs.Answer.{Answer}
 use Rattle.octets.proofs.Laws.{and_left, and_right}
 use Rattle.octets.specs.Read.{starts_with}
 use Rattle.sessions.specs.Record.{pages_of, untouched, erasing, filling, full, waiting, sound, no_word, with_zero, with_page, with_phase}
@@ -167,8 +167,8 @@ module _ (s : Session) (slot : List ℕ) where
       go : (a : Bool) → full s (length slot) ≡ a → (b : Bool) → starts_erased slot ≡ b → (v : Answer) → OneOperation (close_with given) s slot (close_by s v slot)
       go false h b i v = rw h (refused_one (close_with given) s slot 19)
       go true h false i v = rw (h, i) (refused_one (close_with given) s slot 23)
-      go true h true i (answer.Rejected r) = rw (h, i) (nothing_one (close_with given) s slot _ (reply.Rejected r) refl refl)
-      go true h true i (answer.Accepted x) =
+      go true h true i (Err r) = rw (h, i) (nothing_one (close_with given) s slot _ (reply.Rejected r) refl refl)
+      go true h true i (Ok x) =
           let f = sound_facts s (length slot) (and_left (sound s (length slot)) _ h) in
           rw (h, i) (store_one (close_with given) s slot _ reply.Accepted 0 (word_of s.first) refl refl refl (omega (arith, f.lengths.slot_least)) (inl i) refl)
 
@@ -197,8 +197,8 @@ module _ (s : Session) (slot : List ℕ) where
           → (close_by s v slot).session ≡ with_phase s (close_by s v slot).session.phase (close_by s v slot).session.operations
       go false h b i v = rw h refl
       go true h false i v = rw (h, i) refl
-      go true h true i (answer.Rejected r) = rw (h, i) refl
-      go true h true i (answer.Accepted x) = rw (h, i) refl
+      go true h true i (Err r) = rw (h, i) refl
+      go true h true i (Ok x) = rw (h, i) refl
 
 -- ---- Done
 
@@ -223,8 +223,8 @@ not_done (close_with given) s slot e = go (full s (length slot)) refl (starts_er
     go : (a : Bool) → full s (length slot) ≡ a → (b : Bool) → starts_erased slot ≡ b → (v : Answer) → (close_by s v slot).reply ≡ reply.Done → ⊥
     go false h b i v e = false≢true (ap is_done (rw h at e))
     go true h false i v e = false≢true (ap is_done (rw (h, i) at e))
-    go true h true i (answer.Rejected r) e = false≢true (ap is_done (rw (h, i) at e))
-    go true h true i (answer.Accepted x) e = false≢true (ap is_done (rw (h, i) at e))
+    go true h true i (Err r) e = false≢true (ap is_done (rw (h, i) at e))
+    go true h true i (Ok x) e = false≢true (ap is_done (rw (h, i) at e))
 
 confirm_stands : (s : Session) (slot : List ℕ) → (confirm_of s slot).reply ≡ reply.Done → starts_with s.first slot ≡ true
 confirm_stands s slot e = go (waiting s (length slot)) refl (starts_with s.first slot) refl e

@@ -10,6 +10,7 @@ use native.Mathlib.Omega.{arith}
 use lib.Dec.{ltb}
 use borrow.Author.Tests.{ltb-true, ltb-false, eqb-true, lt-ltb, ne_eqb}
 use lib.ListN.{length, length-append, length-take}
+use Rattle.std.specs.Prelude.{Ok, Err}
 use Rattle.octets.proofs.Rounding.{whole_times}
 use Rattle.flash.specs.Flash.{erased_bytes}
 use Rattle.flash.specs.Operation.{word_of, performed}
@@ -17,8 +18,7 @@ use Rattle.flash.specs.declared.Operation.TheVariants.{ErasePage, StoreWord}
 use Rattle.flash.proofs.Laws.{length_erased, performed_page, performed_word}
 use Rattle.header.specs.declared.Inputs.{Inputs}
 use Rattle.image.specs.Check.{check_file}
-use Rattle.image.specs.declared.Answer.{Answer}
-use Rattle.image.specs.declared.Answer.TheVariants.{Accepted, Rejected}
+use Rattle.image.specs.Answer.{Answer}
 use Rattle.sessions.specs.Record.{pages_of, no_word, with_page, with_phase, over, accepted}
 use Rattle.sessions.specs.Calls.{file_in}
 use Rattle.sessions.specs.Run.{erase_call, close_call, plan_close_call, confirm_call, Point, advance, erase_answer, close_answer, plan_close_answer, confirm_answer, all_given, invalidated, pages_erased}
@@ -231,10 +231,10 @@ module _ (found : List ℕ) (f : ℕ) where
     where
       closed : (answer : Answer) → check_file (file_in p.now.session p.now.slot) given ≡ answer → all_given f p.past ≡ true
           → Phase found f (advance (length found) f (close_call given) p)
-      closed (Accepted i) h a =
+      closed (Ok i) h a =
           rw (e.is_open, close_answer, close_allowed found f p e a, slot_starts_erased found f p e, h, a)
           (has_ended (record { stored = closed_stored p e a over p.past.waiting true; phase = refl; awaits = e.not_stored.waiting }))
-      closed (Rejected r) h a = rw (e.is_open, close_answer, close_allowed found f p e a, slot_starts_erased found f p e, h, a) (is_over (rejected_over p e))
+      closed (Err r) h a = rw (e.is_open, close_answer, close_allowed found f p e a, slot_starts_erased found f p e, h, a) (is_over (rejected_over p e))
 
       go : (b : Bool) → all_given f p.past ≡ b → Phase found f (advance (length found) f (close_call given) p)
       go true h = closed (check_file (file_in p.now.session p.now.slot) given) refl h
@@ -259,8 +259,8 @@ module _ (found : List ℕ) (f : ℕ) where
 
       closed : (answer : Answer) → check_file (file_in p.now.session p.now.slot) given ≡ answer → all_given f p.past ≡ true
           → Phase found f (advance (length found) f (plan_close_call given) p)
-      closed (Accepted i) h a = rw (e.is_open, plan_close_answer, close_allowed found f p e a, slot_starts_erased found f p e, h, a) (is_waiting (waits a))
-      closed (Rejected r) h a = rw (e.is_open, plan_close_answer, close_allowed found f p e a, slot_starts_erased found f p e, h, a) (is_over (rejected_over p e))
+      closed (Ok i) h a = rw (e.is_open, plan_close_answer, close_allowed found f p e a, slot_starts_erased found f p e, h, a) (is_waiting (waits a))
+      closed (Err r) h a = rw (e.is_open, plan_close_answer, close_allowed found f p e a, slot_starts_erased found f p e, h, a) (is_over (rejected_over p e))
 
       go : (b : Bool) → all_given f p.past ≡ b → Phase found f (advance (length found) f (plan_close_call given) p)
       go true h = closed (check_file (file_in p.now.session p.now.slot) given) refl h

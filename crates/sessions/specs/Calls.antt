@@ -1,7 +1,7 @@
 -- What each call of the installer gives (specification, 10.3 to 10.5): the record, the answer, and the operation of the flash.
 -- The slot that a call leaves is that operation performed.
 -- Assumes nothing.
-use Rattle.std.specs.Prelude.{ℕ, ◌+◌, ◌*◌, ◌-◌, ◌/◌, ◌%◌, min, List, ◌++◌, Bool, cond, length, take, drop, replicate, eqb, ltb}
+use Rattle.std.specs.Prelude.{ℕ, ◌+◌, ◌*◌, ◌-◌, ◌/◌, ◌%◌, min, List, ◌++◌, Bool, cond, length, take, drop, eqb, ltb, Ok, Err}
 use Rattle.std.proofs.Math.Seq.{paste}
 use Rattle.octets.specs.Read.{starts_with}
 use Rattle.flash.specs.Flash.{starts_erased}
@@ -9,14 +9,11 @@ use Rattle.flash.specs.Operation.{word_of, performed}
 use Rattle.flash.specs.declared.Operation.{Operation}
 use Rattle.flash.specs.declared.Operation.TheVariants.{Nothing, ErasePage, StoreWord}
 use Rattle.header.specs.Table.{refusal}
-use Rattle.header.specs.declared.Outcome.TheVariants.{Refused}
 use Rattle.header.specs.declared.Inputs.{Inputs}
 use Rattle.image.specs.Check.{check_file}
-use Rattle.image.specs.declared.Answer.{Answer}
-use Rattle.image.specs.declared.Answer.TheVariants as answer
-use Rattle.signing.specs.Digests.{vendor_digest, firmware_digest}
+use Rattle.image.specs.Answer.{Answer}
+use Rattle.signing.specs.Digests.{Digest, vendor_digest, firmware_digest}
 use Rattle.signing.specs.Places.{no_signature, vendor_signature, firmware_signature}
-use Rattle.signing.specs.declared.Digest.{Digest}
 use Rattle.signing.specs.declared.places.Signature.{Signature}
 use Rattle.sessions.specs.Record.{over, live, accepted, slot_len_right, file_len_right, untouched, erasing, filling, full, waiting, no_word, new_record, with_zero, with_page, with_bytes, with_phase}
 use Rattle.sessions.specs.declared.Session.{Session}
@@ -101,7 +98,7 @@ file_in s slot = s.first ++ drop 4 (take s.file slot)
 
 -- Ask: both digest questions, or 19 to both
 abbrev pub no_digest : Digest
-no_digest = record { outcome = Refused (refusal 19 0); digest = replicate 32 0 }
+no_digest = Err (refusal 19 0)
 
 abbrev pub asked : Digest → Digest → Asked
 asked vendor firmware = record { vendor = vendor; firmware = firmware }
@@ -119,8 +116,8 @@ signatures_of s slot =
 
 -- Close, where the file check answers so. A refusal is the answer, and the session is over. An acceptance is told, with the store of word 0
 abbrev pub judged : Session → Answer → Plan
-judged s (answer.Accepted i) = plan (with_phase s accepted (s.operations + 1)) reply.Accepted (StoreWord 0 (word_of s.first))
-judged s (answer.Rejected r) = plan (with_phase s over s.operations) (reply.Rejected r) Nothing
+judged s (Ok i) = plan (with_phase s accepted (s.operations + 1)) reply.Accepted (StoreWord 0 (word_of s.first))
+judged s (Err r) = plan (with_phase s over s.operations) (reply.Rejected r) Nothing
 
 -- 19 before 23, 23 before the check
 abbrev pub close_by : Session → Answer → List ℕ → Plan

@@ -3,7 +3,7 @@
 -- operation made, are one step of the list; a cut between the two is the point before.
 -- Nobody else writes the slot, and each call gets the record and the slot that the last one left.
 -- Assumes nothing.
-use Rattle.std.specs.Prelude.{ℕ, ◌+◌, ◌-◌, ◌*◌, ◌/◌, ◌%◌, ◌≤◌, ◌<◌, min, max, ◌≡◌, List, [], ◌∷◌, ◌++◌, Bool, true, false, not, ◌&&◌, ◌||◌, cond, ◌⊎◌, length, take, drop, eqb, leb, ltb}
+use Rattle.std.specs.Prelude.{ℕ, ◌+◌, ◌-◌, ◌*◌, ◌/◌, ◌%◌, ◌≤◌, ◌<◌, min, max, ◌≡◌, List, [], ◌∷◌, ◌++◌, Bool, true, false, not, ◌&&◌, ◌||◌, cond, ◌⊎◌, length, take, drop, eqb, leb, ltb, Ok, Err}
 use Rattle.flash.specs.Flash.{erased_bytes}
 use Rattle.flash.specs.Operation.{word_of, performed, interrupted}
 use Rattle.flash.specs.declared.Operation.{Operation}
@@ -12,8 +12,7 @@ use Rattle.header.specs.Table.{refusal}
 use Rattle.header.specs.declared.Inputs.{Inputs}
 use Rattle.image.specs.Check.{check_file, check_slot}
 use Rattle.image.specs.declared.Image.{Image}
-use Rattle.image.specs.declared.Answer.{Answer}
-use Rattle.image.specs.declared.Answer.TheVariants as answer
+use Rattle.image.specs.Answer.{Answer}
 use Rattle.signing.specs.Digests.{vendor_digest, firmware_digest}
 use Rattle.signing.specs.Places.{no_signature, vendor_signature, firmware_signature}
 use Rattle.sessions.specs.Record.{pages_of, words_stored, no_word}
@@ -227,12 +226,12 @@ erase_then n h = cond (h.is_open && leb h.erases (pages_of n)) (cond (eqb h.eras
 
 -- what a Close answers where the file check answers so, and what one that hands its operation back does
 abbrev pub done_by : Answer → Reply
-done_by (answer.Accepted i) = Done
-done_by (answer.Rejected r) = Rejected r
+done_by (Ok i) = Done
+done_by (Err r) = Rejected r
 
 abbrev pub accepted_by : Answer → Reply
-accepted_by (answer.Accepted i) = Accepted
-accepted_by (answer.Rejected r) = Rejected r
+accepted_by (Ok i) = Accepted
+accepted_by (Err r) = Rejected r
 
 -- the rule of Fill: with g bytes given of a file of f, k bytes of a piece of len are taken. They end where the word ends, where the piece ends or
 -- where the file ends
@@ -247,7 +246,7 @@ pub record FillRule (g f len k : ℕ) : Type 0 where
 -- the slot's first word is zero or erased, and the boot check refuses it with 1 for any time, key policy and verdicts
 pub record Unbootable (slot : List ℕ) : Type 0 where
   pub first : (take 4 slot ≡ erased_bytes 4) ⊎ (take 4 slot ≡ no_word)
-  pub refused : (given : Inputs) → check_slot slot given ≡ answer.Rejected (refusal 1 1)
+  pub refused : (given : Inputs) → check_slot slot given ≡ Err (refusal 1 1)
 
 -- the power is cut inside the call that comes next, and leaves this. That call is not counted: the history is the one before it
 pub record Cut (found : List ℕ) (f : ℕ) (p : Point) (c : Call) (left : List ℕ) : Type 0 where
@@ -295,9 +294,9 @@ pub record Landed (found : List ℕ) (f : ℕ) (p : Point) : Type 0 where
   pub confirm_answers : confirm_answer p.now ≡ cond p.past.waiting Done (Refused 19)
   -- the boot check of the slot as a Close left it that answered Done, or Accepted, accepts too with the same time, key policy and verdicts, and tells
   -- the same
-  pub boots : (given : Inputs) (i : Image) → is_full (length found) f p.past ≡ true → check_file p.past.given given ≡ answer.Accepted i
-      → (check_slot (after (close_call given) p.now).slot given ≡ answer.Accepted i)
-      × (check_slot (after (plan_close_call given) p.now).slot given ≡ answer.Accepted i)
+  pub boots : (given : Inputs) (i : Image) → is_full (length found) f p.past ≡ true → check_file p.past.given given ≡ Ok i
+      → (check_slot (after (close_call given) p.now).slot given ≡ Ok i)
+      × (check_slot (after (plan_close_call given) p.now).slot given ≡ Ok i)
   -- the record counts the operations made since begin, and at Done they are slot / 4,096 + file / 4 + 1
   pub counted : p.now.session.operations ≡ made (length found) p.past
   pub counted_done : p.past.stored ≡ true → p.now.session.operations ≡ pages_of (length found) + f / 4 + 1

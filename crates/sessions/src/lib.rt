@@ -15,8 +15,9 @@ use signing::places::Signature;
 // A session's record: its phase, the lengths of the slot and of the file as told at begin, pages
 // erased, bytes taken, operations made since begin, the file's first word, and the word in progress.
 // The phase is 0 if the session is over, 1 if it is open, and 2 if a close has accepted the file and
-// word 0 is to be confirmed. Any other number is no phase.
-#[derive(Clone, Copy)]
+// word 0 is to be confirmed. Any other number is no phase. It is a number, and no enum, which would be a
+// narrower type: any record may come in, and `installer::record::sound` has one of no phase refused with 19.
+#[derive(Clone, Copy, PartialEq, Eq, Debug)]
 pub struct Session {
     pub phase: u32,
     pub slot: usize,
@@ -30,8 +31,9 @@ pub struct Session {
 
 // What a call answers. Accepted is a close over a slot that is only read: the file is accepted, and
 // word 0 is to be stored. Refused is the installer's own refusal, by its number, and Rejected is one
-// of the check, which a close passes on.
-#[derive(Clone, Copy)]
+// of the check, which a close passes on. It is no Result: a refused call gives a record as well, and
+// the specification says of each of the seven cases which.
+#[derive(Clone, Copy, PartialEq, Eq, Debug)]
 pub enum Reply {
     Begun,
     Erased,
@@ -43,14 +45,14 @@ pub enum Reply {
 }
 
 // The record and the answer that a call gives.
-#[derive(Clone, Copy)]
+#[derive(Clone, Copy, PartialEq, Eq, Debug)]
 pub struct Turn {
     pub session: Session,
     pub reply: Reply,
 }
 
 // The record and the answer that a call gives, and the operation that the caller is to make.
-#[derive(Clone, Copy)]
+#[derive(Clone, Copy, PartialEq, Eq, Debug)]
 pub struct Plan {
     pub session: Session,
     pub reply: Reply,
@@ -58,14 +60,14 @@ pub struct Plan {
 }
 
 // What ask answers: both digest questions over the full file.
-#[derive(Clone, Copy)]
+#[derive(Clone, Copy, PartialEq, Eq, Debug)]
 pub struct Asked {
     pub vendor: Digest,
     pub firmware: Digest,
 }
 
 // What the chip needs for the signatures of the full file, as places in the slot.
-#[derive(Clone, Copy)]
+#[derive(Clone, Copy, PartialEq, Eq, Debug)]
 pub struct Signatures {
     pub vendor: Signature,
     pub firmware: Signature,

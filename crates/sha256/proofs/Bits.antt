@@ -1,8 +1,10 @@
 -- The functions on words: Ch and Maj in the forms of the code, one binary digit at a time, and sums that wrap.
 -- Assumes nothing.
-use Rattle.std.proofs.Common.{◌≡◌, ℕ, zero, suc, ◌+◌, ◌-◌, ◌*◌, ◌/◌, ◌%◌, ◌^◌, ◌<◌, refl, pow-suc, div-add-mod', arith}
-use lib.Bits.{bit_and, bit_xor, and_lt, xor_lt, and_block, xor_block}
-use Rattle.sha256.specs.Fips180.{Ch, Maj}
+use Rattle.std.proofs.Common.{◌≡◌, ℕ, zero, suc, ◌+◌, ◌-◌, ◌*◌, ◌/◌, ◌%◌, ◌^◌, ◌<◌, bit_or, w32, sym, refl, subst, ap, ◌∙◌, add-zero, zero-add, zero-mul, pow_pos, pow-suc, div-add-mod', arith}
+use Rattle.std.specs.Int.{rotate_right}
+use Rattle.std.proofs.lemmas.Nat.{mod-pow-add, mod_low, or_comm, or_shifted, shl-shr, shr_below, xor_comm}
+use lib.Bits.{bit_and, bit_xor, and_lt, xor_lt, and_block, xor_block, xor_zero_r}
+use Rattle.sha256.specs.Fips180.{rotr, Ch, Maj}
 
 -- ---- one digit more
 
@@ -120,14 +122,33 @@ pub maj_is : (x y z : ℕ) → x < 2 ^ 32 → y < 2 ^ 32 → z < 2 ^ 32 → bit_
 unfolding Maj
 maj_is x y z f g h = maj_wide 32 x y z f g h
 
+-- ---- rotations
+
+-- bits that lie apart
+apart : (k m b : ℕ) → b < 2 ^ k → bit_or b (m * 2 ^ k) ≡ bit_xor b (m * 2 ^ k)
+apart k m b h =
+    let e : bit_xor (m * 2 ^ k) b ≡ m * 2 ^ k + b = rw (add-zero, zero-mul, zero-add, xor_zero_r) at (xor_block k m 0 0 b (pow_pos k) h) in
+    or_comm b (m * 2 ^ k) ∙ or_shifted m k b h ∙ sym e ∙ xor_comm (m * 2 ^ k) b
+
+-- the rotation of std is that of the standard
+pub rotated : (n x : ℕ) → 0 < n → n < 32 → x < 2 ^ 32 → rotate_right w32 x n ≡ rotr n x
+unfolding rotr
+rotated n x f g h =
+    let j : ℕ = 32 - n in
+    let e : 32 ≡ n + j = omega arith in
+    let d : 32 ≡ j + n = omega arith in
+    let small : n % 32 ≡ n = omega arith in
+    let left : (32 - n) % 32 ≡ 32 - n = omega arith in
+    let clear : x * 2 ^ j % 2 ^ j ≡ 0 = ap (λ (y : ℕ). y % 2 ^ j) (sym (add-zero _)) ∙ mod_low x j 0 (pow_pos j) in
+    let low : x * 2 ^ j % 2 ^ 32 ≡ x % 2 ^ n * 2 ^ j = ap (λ (i : ℕ). x * 2 ^ j % 2 ^ i) e ∙ mod-pow-add (x * 2 ^ j) n j ∙ rw (shl-shr x j, clear) (add-zero _) in
+    let high : x / 2 ^ n < 2 ^ j = shr_below x j n (subst (λ (i : ℕ). x < 2 ^ i) d h) in
+    rw (small, left, low) (apart j (x % 2 ^ n) (x / 2 ^ n) high)
+
 -- ---- sums
 
-pub sum_of_four : {r s t : ℕ} (a b c d : ℕ) → s ≡ (a + b) % 2 ^ 32 → t ≡ (s + c) % 2 ^ 32 → r ≡ (t + d) % 2 ^ 32 → r ≡ (a + b + c + d) % 2 ^ 32
-sum_of_four a b c d e f g = omega arith
+-- sums of four words, and of five in the order in which the code adds them for T1
+pub sum_of_four : (a b c d : ℕ) → (((a + b) % 2 ^ 32 + c) % 2 ^ 32 + d) % 2 ^ 32 ≡ (a + b + c + d) % 2 ^ 32
+sum_of_four a b c d = omega arith
 
-round_sum : {r u : ℕ} (h s c k w : ℕ) → u ≡ (k + w) % 2 ^ 32 → r ≡ (h + u + c + s) % 2 ^ 32 → r ≡ (h + s + c + k + w) % 2 ^ 32
-round_sum h s c k w e f = omega arith
-
--- T1, in the order of the code's sums
-pub sum_of_round : {r u p q : ℕ} (h s c k w : ℕ) → u ≡ (k + w) % 2 ^ 32 → p ≡ (h + u) % 2 ^ 32 → q ≡ (p + c) % 2 ^ 32 → r ≡ (q + s) % 2 ^ 32 → r ≡ (h + s + c + k + w) % 2 ^ 32
-sum_of_round {u = u} h s c k w e f g i = round_sum h s c k w e (sum_of_four h u c s f g i)
+pub sum_of_round : (h s c k w : ℕ) → (((h + (k + w) % 2 ^ 32) % 2 ^ 32 + c) % 2 ^ 32 + s) % 2 ^ 32 ≡ (h + s + c + k + w) % 2 ^ 32
+sum_of_round h s c k w = sum_of_four h ((k + w) % 2 ^ 32) c s ∙ omega arith

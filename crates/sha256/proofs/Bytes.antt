@@ -1,13 +1,17 @@
 -- Bytes at a place, and the words that they are.
 -- Assumes nothing.
-use Rattle.std.proofs.Common.{◌≡◌, ℕ, zero, suc, ◌+◌, ◌-◌, ◌*◌, ◌/◌, ◌%◌, ◌^◌, ◌<◌, ◌≤◌, List, [], ◌∷◌, ◌++◌, length, take, drop, set, replicate, sym, refl, ap, ◌∙◌, append_assoc, append-nil, add-zero, add-one, arith, length-set, get_or-set_other, get_or-set_same, take_at, ext_get_or, drop_at}
+use Rattle.std.proofs.Common.{◌≡◌, ℕ, zero, suc, ◌+◌, ◌-◌, ◌*◌, ◌/◌, ◌%◌, ◌^◌, ◌<◌, ◌≤◌, List, [], ◌∷◌, ◌++◌, length, take, drop, set, replicate, sym, refl, ap, ◌∙◌, append_assoc, append-nil, add-zero, add-one, arith, length-set, get_or-set_other, get_or-set_same, take_at, ext_get_or, drop_at, length-drop, get_or-drop, drop_of_length-le, w32, w64}
+use Rattle.std.specs.Int.{from_be_bytes, to_be_bytes}
+use Rattle.std.proofs.lemmas.List.{drop-replicate, take_all}
+use Rattle.std.proofs.lemmas.Nat.{shr-shr}
+use Rattle.std.proofs.lemmas.Slice.{take-put_mid}
+use borrow.Rule.Slice.PartMut.{put_mid}
 use native.Mathlib.Decide.{dec_le}
 use lib.ListN.{length-replicate, get_or-replicate, get_or-append, get_or-eq_default}
-use lib.Seq.{get_or_at, set_at}
+use lib.Seq.{get_or_at}
 use Rattle.octets.specs.Read.{bytes_at}
 use Rattle.octets.proofs.Laws.{length_bytes_lem}
-use Rattle.octets.proofs.Numbers.{word_of_lem}
-use Rattle.sha256.specs.Fips180.{at, word_of, bytes_of, words_of, block_at}
+use Rattle.sha256.specs.Fips180.{at, word_of, bytes_of, length_bytes, words_of, block_at, serialised}
 
 -- ---- bytes at a place
 
@@ -29,7 +33,7 @@ bytes_are r b n i l h =
 pub bytes_alike : (n : ℕ) (b : List ℕ) (i : ℕ) (c : List ℕ) (j : ℕ) → ((k : ℕ) → k < n → at b (i + k) ≡ at c (j + k)) → bytes_at n b i ≡ bytes_at n c j
 bytes_alike n b i c j h = bytes_are (bytes_at n b i) c n j (length_bytes_lem n b i) (λ k g. bytes_at_lem n b i k g ∙ h k g)
 
-bytes_split : (m n : ℕ) (b : List ℕ) (i : ℕ) → bytes_at (m + n) b i ≡ bytes_at m b i ++ bytes_at n b (i + m)
+pub bytes_split : (m n : ℕ) (b : List ℕ) (i : ℕ) → bytes_at (m + n) b i ≡ bytes_at m b i ++ bytes_at n b (i + m)
 unfolding bytes_at
 bytes_split m zero b i = let z : m + 0 ≡ m = omega arith in rw (z, append-nil)
 bytes_split m (suc n) b i =
@@ -42,20 +46,24 @@ bytes_past : (n : ℕ) (b : List ℕ) (i : ℕ) → length b ≤ i → bytes_at 
 bytes_past n b i h =
     sym (bytes_are (replicate n 0) b n i (length-replicate n 0) (λ j g. get_or-replicate n j 0 0 g ∙ sym (get_or-eq_default b 0 (omega arith))))
 
--- one turn of the loop that copies
-pub copied_more : {x : ℕ} (s : List ℕ) (i j : ℕ) → j < 64 → x ≡ at s (i + j) → set (bytes_at j s i ++ replicate (64 - j) 0) j x ≡ bytes_at (j + 1) s i ++ replicate (64 - (j + 1)) 0
-unfolding bytes_at
-copied_more s i j h e =
-    let z : 64 - j ≡ suc (64 - (j + 1)) = omega arith in
-    rw (z, e, add-one j, append_assoc (bytes_at j s i) (at s (i + j) ∷ []) (replicate (64 - suc j) 0))
-    (set_at (bytes_at j s i) 0 (replicate (64 - suc j) 0) (at s (i + j)) j (length_bytes_lem j s i))
+-- the last bytes, and zeros behind them
+pub copied : {r : List ℕ} (s : List ℕ) (i : ℕ) → i < length s → length s < i + 64 → r ≡ take (length s - i) (drop i s)
+    → r ++ drop (length (take (length s - i) (drop i s))) (replicate 64 0) ≡ bytes_at 64 s i
+copied s i g h f =
+    let n : ℕ = length s - i in
+    let all : take n (drop i s) ≡ drop i s = take_all n (drop i s) (omega (arith, length-drop i s)) in
+    let front : drop i s ≡ bytes_at n s i = bytes_are (drop i s) s n i (length-drop i s) (λ j l. get_or-drop i s j 0) in
+    let back : drop n (replicate 64 0) ≡ bytes_at (64 - n) s (i + n) = drop-replicate n 64 0 ∙ sym (bytes_past (64 - n) s (i + n) (omega arith)) in
+    let z : n + (64 - n) ≡ 64 = omega arith in
+    rw (f, all, length-drop i s, back, front, ← bytes_split n (64 - n) s i, z)
 
--- all is copied
-pub copied_all : (s : List ℕ) (i j : ℕ) → length s ≤ i + j → j ≤ 64 → bytes_at j s i ++ replicate (64 - j) 0 ≡ bytes_at 64 s i
-copied_all s i j h g =
-    let z : j + (64 - j) ≡ 64 = omega arith in
-    let y : bytes_at (j + (64 - j)) s i ≡ bytes_at j s i ++ replicate (64 - j) 0 = bytes_split j (64 - j) s i ∙ ap (λ (l : List ℕ). bytes_at j s i ++ l) (bytes_past (64 - j) s (i + j) h) in
-    sym (rw z at y)
+-- no byte is left
+pub none_left : (s : List ℕ) (i : ℕ) → length s ≤ i → replicate 64 0 ≡ bytes_at 64 s i
+none_left s i h = sym (bytes_past 64 s i h)
+
+-- the last eight bytes of 64 written
+pub ended : {r : List ℕ} (b x : List ℕ) → length b ≡ 64 → r ≡ x → put_mid 56 8 b r ≡ take 56 b ++ x
+ended b x l e = let none : drop 8 (drop 56 b) ≡ [] = drop_of_length-le (drop 56 b) {i = 8} (omega (arith, length-drop 56 b)) in rw (e, none, append-nil)
 
 -- a byte at n of those from i on
 pub bytes_set : {r : List ℕ} (s b : List ℕ) (n i x : ℕ) → i ≤ n → r ≡ set (bytes_at 64 s i) (n - i) x → at b n ≡ x → ((j : ℕ) → (j ≡ n → ⊥) → at s j ≡ at b j) → r ≡ bytes_at 64 b i
@@ -81,10 +89,9 @@ bytes_set {r} s b n i x h e f g = bytes_are r b 64 i long point
 
 -- ---- words
 
-pub word_at : {b0 b1 b2 b3 : ℕ} (s : List ℕ) (i : ℕ) → b0 ≡ at s i → b1 ≡ at s (i + 1) → b2 ≡ at s (i + 2) → b3 ≡ at s (i + 3)
-    → 16777216 * b0 + 65536 * b1 + 256 * b2 + b3 ≡ word_of (bytes_at 4 s i)
+pub word_at : (s : List ℕ) (i : ℕ) → from_be_bytes w32 (at s i ∷ at s (i + 1) ∷ at s (i + 2) ∷ at s (i + 3) ∷ []) ≡ word_of (bytes_at 4 s i)
 unfolding bytes_at
-word_at s i e f g h = rw (e, f, g, h, add-zero i)
+word_at s i = rw (add-zero i) (omega arith)
 
 words_step : (n k : ℕ) (b : List ℕ) (i : ℕ) → words_of (suc n) (bytes_at (4 + k) b i) ≡ word_of (bytes_at 4 b i) ∷ words_of n (bytes_at k b (i + 4))
 unfolding words_of
@@ -126,28 +133,49 @@ four_fours_at b i =
     let z : i + 32 + 16 ≡ i + 48 = omega arith in
     rw (words_split 4 12 b i, words_split 4 8 b (i + 16), y, words_split 4 4 b (i + 32), z)
 
-length_words : (n : ℕ) (b : List ℕ) → length (words_of n b) ≡ n
-unfolding words_of
-length_words zero b = refl
-length_words (suc n) b = ap suc (length_words n (drop 4 b))
+-- ---- words as bytes
 
-pub words_take : (m n : ℕ) (b : List ℕ) (i : ℕ) → take m (words_of (m + n) (bytes_at (4 * (m + n)) b i)) ≡ words_of m (bytes_at (4 * m) b i)
-words_take m n b i = rw (words_split m n b i) (take_at (words_of m (bytes_at (4 * m) b i)) (words_of n (bytes_at (4 * n) b (i + 4 * m))) m (length_words m (bytes_at (4 * m) b i)))
+-- the bytes of the first n words
+unfoldable pub spelt : List ℕ → ℕ → List ℕ
+spelt h zero = []
+spelt h (suc n) = spelt h n ++ bytes_of (at h n)
 
--- a word from its bytes
-reversed : (a b c d : ℕ) → 16777216 * a + 65536 * b + 256 * c + d ≡ d + 256 * c + 65536 * b + 16777216 * a
-reversed a b c d = omega arith
+pub spelt_none : (h : List ℕ) → [] ≡ spelt h 0
+unfolding spelt
+spelt_none h = refl
 
-word_bytes : (w : ℕ) → w < 2 ^ 32 → word_of (bytes_of w) ≡ w
+-- one word more, written behind those
+pub spelt_more : (r h ys : List ℕ) (n k : ℕ) → take (4 * n) r ≡ spelt h n → 4 * n ≤ length r → ys ≡ to_be_bytes w32 (at h n)
+    → take (4 * (n + 1)) (put_mid (4 * n) k r ys) ≡ spelt h (n + 1)
+unfolding spelt bytes_of
+spelt_more r h ys n k e l f =
+    let m : length ys ≡ 4 = rw f refl in
+    let front : take (4 * (n + 1)) (put_mid (4 * n) k r ys) ≡ take (4 * n) r ++ ys = take-put_mid (4 * n) k r ys (4 * (n + 1)) (omega arith) l in
+    rw (front, e, f, add-one) refl
+
+pub spelt_all : (h : List ℕ) → spelt h 8 ≡ serialised h
+unfolding spelt serialised
+spelt_all h = refl
+
+-- a number as eight bytes, and as two words
+two_words : (m : ℕ) → to_be_bytes w64 m ≡ bytes_of (m / 2 ^ 32) ++ bytes_of (m % 2 ^ 32)
 unfolding bytes_of
-word_bytes w h = reversed (w / 16777216 % 256) (w / 65536 % 256) (w / 256 % 256) (w % 256) ∙ word_of_lem w h
-
-pub two_words : (v w : ℕ) → v < 2 ^ 32 → w < 2 ^ 32 → words_of 2 (bytes_of v ++ bytes_of w) ≡ v ∷ w ∷ []
-unfolding words_of bytes_of
-two_words v w h g =
-    let p = word_bytes v h in
-    let q = word_bytes w g in
+two_words m =
+    let a : m / 2 ^ 32 / 16777216 ≡ m / 2 ^ 56 = shr-shr m 32 24 in
+    let b : m / 2 ^ 32 / 65536 ≡ m / 2 ^ 48 = shr-shr m 32 16 in
+    let c : m / 2 ^ 32 / 256 ≡ m / 2 ^ 40 = shr-shr m 32 8 in
+    let d : m % 2 ^ 32 / 16777216 % 256 ≡ m / 2 ^ 24 % 256 = omega arith in
+    let e : m % 2 ^ 32 / 65536 % 256 ≡ m / 2 ^ 16 % 256 = omega arith in
+    let f : m % 2 ^ 32 / 256 % 256 ≡ m / 2 ^ 8 % 256 = omega arith in
+    let g : m % 2 ^ 32 % 256 ≡ m % 256 = omega arith in
     cc
+
+-- the length in bits
+pub length_told : (n : ℕ) → to_be_bytes w64 (n * 8 % 2 ^ 64) ≡ length_bytes n
+length_told n =
+    let h : 8 * n / 2 ^ 32 % 2 ^ 32 ≡ n * 8 % 2 ^ 64 / 2 ^ 32 = omega arith in
+    let l : 8 * n % 2 ^ 32 ≡ n * 8 % 2 ^ 64 % 2 ^ 32 = omega arith in
+    rw (h, l) (two_words (n * 8 % 2 ^ 64))
 
 -- ---- blocks
 

@@ -1,6 +1,6 @@
 -- The padded message by its bytes and blocks, and the digest by the loop over these.
 -- Assumes nothing.
-use Rattle.std.proofs.Common.{◌≡◌, ℕ, zero, suc, ◌+◌, ◌-◌, ◌*◌, ◌/◌, ◌%◌, ◌^◌, ◌<◌, ◌≤◌, true, List, [], ◌∷◌, ◌++◌, length, take, drop, set, replicate, sym, refl, ap, ◌∙◌, append_assoc, arith, length-append, take_at, get_or-append-add, drop_at}
+use Rattle.std.proofs.Common.{◌≡◌, ℕ, zero, suc, ◌+◌, ◌-◌, ◌*◌, ◌/◌, ◌<◌, ◌≤◌, true, List, [], ◌∷◌, ◌++◌, length, take, drop, set, replicate, sym, refl, ap, ◌∙◌, append_assoc, arith, length-append, take_at, get_or-append-add, drop_at}
 use native.Mathlib.Decide.{dec_le}
 use lib.ListN.{length-replicate, get_or-append, get_or-eq_default}
 use lib.Seq.{get_or_at}
@@ -9,7 +9,7 @@ use Rattle.octets.proofs.Laws.{length_bytes_lem}
 use Rattle.sha256.specs.Fips180.{at, bytes_of, zeros_between, length_bytes, padded, words_of, block_at, initial, compressed, absorbed, serialised, sha256_of}
 use Rattle.sha256.specs.Words.{zero_tailed, marker, block_count}
 use Rattle.sha256.specs.Theorems.{PaddedMessage, BlocksInPlace}
-use Rattle.sha256.proofs.Bytes.{bytes_are, bytes_alike, bytes_set, words_split, words_take, two_words, block_alike}
+use Rattle.sha256.proofs.Bytes.{bytes_are, bytes_alike, bytes_split, bytes_set, block_alike}
 
 -- ---- the loop over the blocks
 
@@ -95,6 +95,14 @@ padded_told : (d : List ℕ) (i : ℕ) → i ≡ length (before d) → bytes_at 
 padded_told d i e =
     sym (bytes_are (length_bytes (length d)) (padded d) 8 i (length_told (length d)) (λ j l. rw (e, padded_parts d) (sym (get_or-append-add (before d) (length_bytes (length d)) j 0))))
 
+-- the block of bytes that were made
+pub made_block : {b w : List ℕ} (d : List ℕ) (i : ℕ) → b ≡ bytes_at 64 d i → w ≡ block_at b 0 → w ≡ block_at d i
+unfolding block_at
+made_block {b} d i e f =
+    let l : length b ≡ 64 = ap length e ∙ length_bytes_lem 64 d i in
+    let m : b ≡ bytes_at 64 b 0 = bytes_are b b 64 0 l (λ j g. let z : 0 + j ≡ j = omega arith in rw z) in
+    f ∙ ap (words_of 16) (sym m ∙ e)
+
 -- ---- a message of n bytes, those of s and zeros
 
 module _ (s : List ℕ) (n : ℕ) (most : length s ≤ n) where
@@ -121,35 +129,23 @@ module _ (s : List ℕ) (n : ℕ) (most : length s ≤ n) where
   tail_marked i h e f =
       bytes_set s (zero_tailed n s ++ (marker ∷ [])) n i marker h (rw e at f) (get_or_at (zero_tailed n s) marker [] 0 n length_tailed) tailed_at
 
-  -- the block of bytes that were made
-  made_block : {b w : List ℕ} (i : ℕ) → b ≡ bytes_at 64 (zero_tailed n s ++ (marker ∷ [])) i → w ≡ block_at b 0 → w ≡ block_at (zero_tailed n s ++ (marker ∷ [])) i
-  unfolding block_at
-  made_block {b} i e f =
-      let l : length b ≡ 64 = ap length e ∙ length_bytes_lem 64 (zero_tailed n s ++ (marker ∷ [])) i in
-      let m : b ≡ bytes_at 64 b 0 = bytes_are b b 64 0 l (λ j g. let z : 0 + j ≡ j = omega arith in rw z) in
-      f ∙ ap (words_of 16) (sym m ∙ e)
-
   -- a block that ends before the length
-  pub tail_earlier : {b w : List ℕ} (k : ℕ) → k + 1 < block_count n → b ≡ bytes_at 64 (zero_tailed n s ++ (marker ∷ [])) (64 * k) → w ≡ block_at b 0
-      → w ≡ block_at (padded (zero_tailed n s)) (64 * k)
-  tail_earlier k h e f =
-      made_block (64 * k) e f
-      ∙ block_alike (zero_tailed n s ++ (marker ∷ [])) (64 * k) (padded (zero_tailed n s)) (64 * k)
+  pub tail_earlier : {b : List ℕ} (k : ℕ) → k + 1 < block_count n → b ≡ bytes_at 64 (zero_tailed n s ++ (marker ∷ [])) (64 * k) → b ≡ bytes_at 64 (padded (zero_tailed n s)) (64 * k)
+  tail_earlier k h e =
+      e ∙ bytes_alike 64 (zero_tailed n s ++ (marker ∷ [])) (64 * k) (padded (zero_tailed n s)) (64 * k)
       (λ j g. sym (padded_before (zero_tailed n s) (64 * k + j) (rw length_tailed (omega arith))))
 
   -- the last block
-  pub tail_last : {b w r : List ℕ} (k : ℕ) → k + 1 ≡ block_count n → b ≡ bytes_at 64 (zero_tailed n s ++ (marker ∷ [])) (64 * k) → w ≡ block_at b 0
-      → r ≡ take 14 w ++ (8 * n / 2 ^ 32 % 2 ^ 32 ∷ 8 * n % 2 ^ 32 ∷ []) → r ≡ block_at (padded (zero_tailed n s)) (64 * k)
-  unfolding block_at
-  tail_last {b} {w} k h e f g =
+  pub tail_last : {b r : List ℕ} (k : ℕ) → k + 1 ≡ block_count n → b ≡ bytes_at 64 (zero_tailed n s ++ (marker ∷ [])) (64 * k) → r ≡ take 56 b ++ length_bytes n
+      → r ≡ bytes_at 64 (padded (zero_tailed n s)) (64 * k)
+  tail_last k h e f =
       let m : List ℕ = zero_tailed n s in
       let p : List ℕ = m ++ (marker ∷ []) in
-      let first : take 14 w ≡ words_of 14 (bytes_at 56 (padded m) (64 * k)) =
-      ap (take 14) (made_block (64 * k) e f) ∙ words_take 14 2 p (64 * k)
-      ∙ ap (words_of 14) (bytes_alike 56 p (64 * k) (padded m) (64 * k) (λ j l. sym (padded_before m (64 * k + j) (rw length_tailed (omega arith))))) in
-      let second : words_of 2 (bytes_at 8 (padded m) (64 * k + 56)) ≡ 8 * n / 2 ^ 32 % 2 ^ 32 ∷ 8 * n % 2 ^ 32 ∷ [] =
-      ap (words_of 2) (padded_told m (64 * k + 56) (omega (arith, length_place m, length_tailed)) ∙ ap length_bytes length_tailed) ∙ two_words (8 * n / 2 ^ 32 % 2 ^ 32) (8 * n % 2 ^ 32) (omega arith) (omega arith) in
-      g ∙ rw (first, ← second) (sym (words_split 14 2 (padded m) (64 * k)))
+      let first : take 56 (bytes_at 64 p (64 * k)) ≡ bytes_at 56 (padded m) (64 * k) =
+      rw (bytes_split 56 8 p (64 * k)) (take_at (bytes_at 56 p (64 * k)) (bytes_at 8 p (64 * k + 56)) 56 (length_bytes_lem 56 p (64 * k)))
+      ∙ bytes_alike 56 p (64 * k) (padded m) (64 * k) (λ j l. sym (padded_before m (64 * k + j) (rw length_tailed (omega arith)))) in
+      let second : bytes_at 8 (padded m) (64 * k + 56) ≡ length_bytes n = padded_told m (64 * k + 56) (omega (arith, length_place m, length_tailed)) ∙ ap length_bytes length_tailed in
+      rw e at f ∙ rw (first, ← second) (sym (bytes_split 56 8 (padded m) (64 * k)))
 
   -- a block that lies whole in s
   whole_block : (k : ℕ) → 64 * k + 64 ≤ length s → block_at s (64 * k) ≡ block_at (padded (zero_tailed n s)) (64 * k)
@@ -158,15 +154,15 @@ module _ (s : List ℕ) (n : ℕ) (most : length s ≤ n) where
       (λ j g. sym (padded_message (zero_tailed n s) (64 * k + j) (omega (arith, length_tailed)) ∙ zeros_after s (n - length s) (64 * k + j)))
 
   -- the digest, by the blocks that lie whole in s and the loop over the others
-  pub hashed : {h x u r : List ℕ} (whole : ℕ) → 64 * whole ≤ length s → h ≡ initial → x ≡ absorbed (λ k. block_at s (64 * k)) h 0 whole
+  pub hashed : {x u r : List ℕ} (whole : ℕ) → 64 * whole ≤ length s → x ≡ absorbed (λ k. block_at s (64 * k)) initial 0 whole
       → u ≡ absorbed (λ k. block_at (padded (zero_tailed n s)) (64 * k)) x whole (block_count n - whole) → r ≡ serialised u → r ≡ sha256_of (zero_tailed n s)
   unfolding sha256_of
-  hashed {h} {x} {u} whole l i e f g =
+  hashed whole l e f g =
       let m : ℕ → List ℕ = λ k. block_at (padded (zero_tailed n s)) (64 * k) in
       let z : length (padded (zero_tailed n s)) / 64 ≡ whole + (block_count n - whole) = omega (arith, length_padded (zero_tailed n s), length_tailed) in
-      let y : x ≡ absorbed m initial 0 whole = e ∙ rw i (absorbed_same (λ k. block_at s (64 * k)) m initial 0 whole (λ j a b. whole_block j (omega arith))) in
+      let y : absorbed (λ k. block_at s (64 * k)) initial 0 whole ≡ absorbed m initial 0 whole = absorbed_same (λ k. block_at s (64 * k)) m initial 0 whole (λ j a b. whole_block j (omega arith)) in
       let w : 0 + whole ≡ whole = omega arith in
-      g ∙ ap serialised (f ∙ rw (z, resumed m initial 0 whole (block_count n - whole), w, y))
+      g ∙ ap serialised (f ∙ rw (z, resumed m initial 0 whole (block_count n - whole), w, e, y))
 
 -- ---- what is shown of the definition
 

@@ -1,21 +1,11 @@
 -- The rounds by their words, and the schedule by the sixteen words before.
 -- Assumes nothing.
-use Rattle.std.proofs.Common.{◌≡◌, ℕ, zero, suc, ◌+◌, ◌≤◌, List, [], ◌∷◌, ◌++◌, length, drop, sym, refl, ap, ◌∙◌, append_assoc, append-nil, add-one, arith, length-append, drop_of_length-le, drop-cons, get_or-append-add, drop_at}
+use Rattle.std.proofs.Common.{◌≡◌, ℕ, zero, suc, ◌+◌, ◌-◌, ◌*◌, ◌<◌, ◌≤◌, List, [], ◌∷◌, ◌++◌, length, drop, sym, refl, ap, ◌∙◌, append_assoc, append-nil, add-one, arith, length-append, drop_of_length-le, drop-cons, get_or-append-add, drop_at}
 use lib.Seq.{drop-append-le}
 use Rattle.sha256.specs.Fips180.{at, K, scheduled_word, schedule, round, rounds}
 use Rattle.sha256.specs.Words.{two, sixteen_at}
 
 -- ---- rounds
-
--- one round more
-pub ran : {u r : List ℕ} (v : List ℕ) (k x : ℕ) (ks w : List ℕ) → u ≡ round v k x → r ≡ rounds u ks w → r ≡ rounds v (k ∷ ks) (x ∷ w)
-unfolding rounds
-ran v k x ks w e f = f ∙ ap (λ (s : List ℕ). rounds s ks w) e
-
--- two rounds more
-pub ran_two : {u r : List ℕ} (v : List ℕ) (k l x y : ℕ) (ks w : List ℕ) → u ≡ rounds v (k ∷ l ∷ []) (x ∷ y ∷ []) → r ≡ rounds u ks w → r ≡ rounds v (k ∷ l ∷ ks) (x ∷ y ∷ w)
-unfolding rounds
-ran_two v k l x y ks w e f = f ∙ ap (λ (s : List ℕ). rounds s ks w) e
 
 -- no round more
 pub none : (v w : List ℕ) → v ≡ rounds v [] w
@@ -119,10 +109,18 @@ next_group v k w x t i j z l lw lx s e =
     let f : drop 16 (schedule w i) ≡ schedule x j = rw (z, schedule_window w w x 16 j s lw) (drop_at w (schedule x j) 16 lw) in
     rw f (group v k x t j l lx e)
 
--- no constant is left
-pub last_group : (v k w : List ℕ) (t : ℕ) → length k ≤ t → v ≡ rounds v (drop t k) w
-last_group v k w t l = rw (drop_of_length-le k {i = t} l) (none v w)
-
 pub length_constants : length K ≡ 64
 unfolding K
 length_constants = refl
+
+-- sixteen rounds with a row of the constants
+pub next_row : {u : List ℕ} (v w x r : List ℕ) (i : ℕ) → i < 3 → length w ≡ 16 → length x ≡ 16 → schedule w 16 ≡ w ++ x
+    → sixteen_at r 0 ≡ sixteen_at K (16 * i + 16) → u ≡ rounds v (sixteen_at r 0) x
+    → rounds u (drop (16 * (i + 1) + 16) K) (drop 16 (schedule x (48 - 16 * (i + 1)))) ≡ rounds v (drop (16 * i + 16) K) (drop 16 (schedule w (48 - 16 * i)))
+next_row v w x r i h lw lx s e f =
+    let t : 16 * (i + 1) + 16 ≡ 16 * i + 16 + 16 = omega arith in
+    rw t (next_group v K w x (16 * i + 16) (48 - 16 * i) (48 - 16 * (i + 1)) (omega arith) (omega (arith, length_constants)) lw lx s (rw e at f))
+
+-- no constant is left
+pub last_group : (v k w : List ℕ) (t : ℕ) → length k ≤ t → v ≡ rounds v (drop t k) w
+last_group v k w t l = rw (drop_of_length-le k {i = t} l) (none v w)

@@ -4,7 +4,6 @@ use Rattle.std.specs.Prelude.{ℕ, ◌+◌, ◌-◌, ◌/◌, List, [], ◌∷�
 use Rattle.sha256.specs.declared.mixing.State.{State}
 use Rattle.sha256.specs.declared.mixing.Quad.{Quad}
 use Rattle.sha256.specs.declared.mixing.Block.{Block}
-use Rattle.sha256.specs.declared.blocks.Bytes.{Bytes}
 use Rattle.sha256.specs.Fips180.{at}
 
 abbrev pub state : State → List ℕ
@@ -19,9 +18,6 @@ sixteen p q r s = quad p ++ (quad q ++ (quad r ++ quad s))
 
 abbrev pub block : Block → List ℕ
 block r = sixteen r.q0 r.q1 r.q2 r.q3
-
-abbrev pub four : Bytes → List ℕ
-four r = r.b0 ∷ r.b1 ∷ r.b2 ∷ r.b3 ∷ []
 
 -- two words of k from t on
 abbrev pub two : List ℕ → ℕ → List ℕ

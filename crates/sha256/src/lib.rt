@@ -13,18 +13,26 @@ pub mod theorems;
 ghost use Rattle.std.specs.Prelude.{◌≡◌, ◌++◌, replicate};
 ghost use Rattle.sha256.specs.Fips180.{sha256_of};
 
-use blocks::digest_of;
+use blocks::Message;
 
 // The digest of the bytes.
 pub fn sha256(bytes: &[u8]) -> [u8; 32]
     ensures { result ≡ sha256_of bytes.now }
 {
-    digest_of(bytes, bytes.len())
+    Message {
+        lent: bytes,
+        len: bytes.len(),
+    }
+    .digest()
 }
 
 // The digest of the bytes and so many zeros after them.
 pub fn sha256_zero_tailed(bytes: &[u8], zeros: u32) -> [u8; 32]
     ensures { result ≡ sha256_of (bytes.now ++ replicate zeros 0) }
 {
-    digest_of(bytes, bytes.len() + zeros as usize)
+    Message {
+        lent: bytes,
+        len: bytes.len() + zeros as usize,
+    }
+    .digest()
 }

@@ -7,6 +7,8 @@ use mathlib.Core.Bool.{Bool, not}
 use native.Mathlib.Omega.{arith}
 use lib.ListN.{length, take, drop, replicate}
 use borrow.Author.Tests.{le-leb}
+use Rattle.std.specs.Prelude.{Ok, Err}
+use Rattle.std.specs.Result.{IsOk}
 use Rattle.octets.specs.Read.{u32_at, between, starts_with}
 use Rattle.blake2s.specs.Rfc7693.{blake2s_of}
 use Rattle.blake2s.specs.Parts.{zero_tailed}
@@ -15,60 +17,61 @@ use Rattle.header.specs.Steps.{vendor_magic_missing}
 use Rattle.header.specs.Table.{Row, first_failing, vendor_shape, firmware_shape}
 use Rattle.header.specs.Outcome.{told}
 use Rattle.header.specs.declared.Refusal.{Refusal}
-use Rattle.header.specs.declared.Outcome.{Outcome}
-use Rattle.header.specs.declared.Outcome.TheVariants.{Pass, Refused}
+use Rattle.header.specs.Outcome.{Outcome}
 use Rattle.header.proofs.Rows.{same_row, same_stage, stage_first, stage_then, pass_tail}
 use Rattle.header.proofs.Facts.{vendor_shaped}
 use Rattle.header.proofs.Alike.{between_alike}
 use Rattle.header.proofs.Told.{told_too}
 use Rattle.signing.specs.Digests.{vendor_rows, firmware_rows, signed_vendor, signed_firmware, answered, vendor_digest, firmware_digest}
-use Rattle.signing.specs.declared.Digest.{Digest}
+use Rattle.signing.specs.Digests.{Digest}
 use Rattle.header.proofs.WordApart.{word_byte, shaped_word_alike, word_magic, word_vendor_shape, word_firmware_shape}
 
 -- ---- a call's return, whichever its rows are
 
--- o is what the rows' function returned, given x for S1's answer m. The call found it to be p, and replies with o and d
-pub answers : {x m : Bool} {o p : Outcome} {d : List ℕ} (rows : Bool → List ℕ → List Row) (b e : List ℕ) → x ≡ m → o ≡ first_failing (rows x b) → o ≡ p
-    → record { outcome = p; digest = d } ≡ answered p e
-    → record { outcome = o; digest = d } ≡ answered (first_failing (rows m b)) e
-answers rows b e magic first found h = rw (← magic, ← first, found) h
+-- o is what the rows' function returned, and a what the call replies of it
+pub replies_refusal : {o : Outcome} {a : Digest} {r : Refusal} (e : List ℕ) → o ≡ Err r → a ≡ Err r → a ≡ answered o e
+replies_refusal e failed h = rw failed h
 
--- the same of an outcome that is given
-pub answers_given : {o p : Outcome} {d : List ℕ} (e : List ℕ) → o ≡ p → record { outcome = p; digest = d } ≡ answered p e → record { outcome = o; digest = d } ≡ answered o e
-answers_given e found h = rw found h
+pub replies_digest : {o : Outcome} {u : Unit {0}} {d e : List ℕ} → o ≡ Ok u → d ≡ e → Ok d ≡ answered o e
+replies_digest passed h = rw passed (ap Ok h)
 
--- an answer's outcome is that of its rows, and after a refusal its digest is zeros
-pub outcome_is : (o : Outcome) (d : List ℕ) → (answered o d).outcome ≡ o
-outcome_is Pass d = refl
-outcome_is (Refused r) d = refl
+-- given x for S1's answer m
+pub answers : {x m : Bool} {o : Outcome} {a : Digest} (rows : Bool → List ℕ → List Row) (b e : List ℕ) → x ≡ m → o ≡ first_failing (rows x b) → a ≡ answered o e
+    → a ≡ answered (first_failing (rows m b)) e
+answers rows b e magic first h = rw (← magic, ← first) h
 
-pub refused_zeros : (o : Outcome) (d : List ℕ) (r : Refusal) → (answered o d).outcome ≡ Refused r → (answered o d).digest ≡ replicate 32 0
-refused_zeros Pass d r e = cc
-refused_zeros (Refused s) d r e = refl
+-- an answer is a digest where its rows pass, and a refusal is that of its rows
+pub outcome_ok : (o : Outcome) (d : List ℕ) → IsOk (answered o d) → o ≡ Ok tt
+outcome_ok (Ok tt) d e = refl
+outcome_ok (Err r) d e = cc
 
--- a call that promises its reply promises what the outcome tells
-pub tells : {x y : Digest} → x ≡ y → (x ≡ y) × (told x.outcome ≡ told y.outcome)
-tells e = told_too (λ (x : Digest). told x.outcome) e
+pub outcome_err : (o : Outcome) (d : List ℕ) (r : Refusal) → answered o d ≡ Err r → o ≡ Err r
+outcome_err (Ok tt) d r e = cc
+outcome_err (Err s) d r e = cc
+
+-- a call that promises its reply promises what it tells
+pub tells : {x y : Digest} → x ≡ y → (x ≡ y) × (told x ≡ told y)
+tells e = told_too (λ (x : Digest). told x) e
 
 -- ---- rows that pass: the headers have their shape
 
-pub vendor_rows_shape : (m : Bool) (b : List ℕ) → first_failing (vendor_rows m b) ≡ Pass → first_failing (vendor_shape b) ≡ Pass
+pub vendor_rows_shape : (m : Bool) (b : List ℕ) → first_failing (vendor_rows m b) ≡ Ok tt → first_failing (vendor_shape b) ≡ Ok tt
 unfolding vendor_rows
 vendor_rows_shape m b p = pass_tail m _ _ p
 
-pub firmware_rows_shape : (m : Bool) (b : List ℕ) → first_failing (firmware_rows m b) ≡ Pass → first_failing (vendor_shape b) ≡ Pass
+pub firmware_rows_shape : (m : Bool) (b : List ℕ) → first_failing (firmware_rows m b) ≡ Ok tt → first_failing (vendor_shape b) ≡ Ok tt
 unfolding firmware_rows
 firmware_rows_shape m b p = stage_first _ (firmware_shape b) (pass_tail m _ _ p)
 
-pub firmware_rows_own_shape : (m : Bool) (b : List ℕ) → first_failing (firmware_rows m b) ≡ Pass → first_failing (firmware_shape b) ≡ Pass
+pub firmware_rows_own_shape : (m : Bool) (b : List ℕ) → first_failing (firmware_rows m b) ≡ Ok tt → first_failing (firmware_shape b) ≡ Ok tt
 unfolding firmware_rows
 firmware_rows_own_shape m b p = stage_then (vendor_shape b) _ (pass_tail m _ _ p)
 
 -- ---- the word given apart
 
-pub answered_same : (o o' : Outcome) (d d' : List ℕ) → o ≡ o' → (o' ≡ Pass → d ≡ d') → answered o d ≡ answered o' d'
-answered_same o Pass d d' e h = rw (e, h refl)
-answered_same o (Refused r) d d' e h = rw e
+pub answered_same : (o o' : Outcome) (d d' : List ℕ) → o ≡ o' → (o' ≡ Ok tt → d ≡ d') → answered o d ≡ answered o' d'
+answered_same o (Ok tt) d d' e h = rw (e, h refl)
+answered_same o (Err r) d d' e h = rw e
 
 take_past : (w r : List ℕ) (n : ℕ) → take (length w + n) (w ++ r) ≡ w ++ take n r
 take_past [] r n = let e : 0 + n ≡ n = omega arith in rw e
@@ -79,14 +82,14 @@ module _ (w b : List ℕ) (l : length w ≡ 4) where
   unfolding u32_at
   word_len = rw (word_byte w b l 4 (omega arith), word_byte w b l 5 (omega arith), word_byte w b l 6 (omega arith), word_byte w b l 7 (omega arith))
 
-  signed_vendor_lem : first_failing (vendor_shape b) ≡ Pass → signed_vendor (w ++ drop 4 b) ≡ w ++ zero_tailed (between 4 (mask_at (vendor_len b)) b)
+  signed_vendor_lem : first_failing (vendor_shape b) ≡ Ok tt → signed_vendor (w ++ drop 4 b) ≡ w ++ zero_tailed (between 4 (mask_at (vendor_len b)) b)
   unfolding signed_vendor between
   signed_vendor_lem p =
       let least = (vendor_shaped b p).size.least in
       let e : vendor_len b - 65 - 0 ≡ length w + (vendor_len b - 65 - 4) = omega arith in
       rw (word_len, e, take_past w (drop 4 b) (vendor_len b - 65 - 4)) (append_assoc w (take (vendor_len b - 65 - 4) (drop 4 b)) (replicate 65 0))
 
-  signed_firmware_lem : first_failing (vendor_shape b) ≡ Pass → signed_firmware (w ++ drop 4 b) ≡ signed_firmware b
+  signed_firmware_lem : first_failing (vendor_shape b) ≡ Ok tt → signed_firmware (w ++ drop 4 b) ≡ signed_firmware b
   unfolding signed_firmware
   signed_firmware_lem p =
       let least = (vendor_shaped b p).size.least in

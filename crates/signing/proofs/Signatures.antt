@@ -7,19 +7,20 @@ use mathlib.Core.Bool.{not}
 use native.Mathlib.Omega.{arith}
 use native.Mathlib.Nat.{add-zero}
 use lib.ListN.{length, get_or, take, drop}
+use Rattle.std.specs.Prelude.{Ok, Err}
+use Rattle.std.specs.Result.{IsOk}
+use Rattle.header.specs.declared.Refusal.{Refusal}
 use Rattle.octets.specs.Read.{between, bytes_at, starts_with}
 use Rattle.octets.proofs.Laws.{between_none, bytes_between, length_bytes_lem}
 use Rattle.header.specs.Layout.{TRZV, vendor_len}
 use Rattle.header.specs.Steps.{vendor_magic_missing}
 use Rattle.header.specs.Table.{first_failing, vendor_shape, firmware_shape}
-use Rattle.header.specs.declared.Outcome.{Outcome}
-use Rattle.header.specs.declared.Outcome.TheVariants.{Pass, Refused}
 use Rattle.header.proofs.Facts.{vendor_shaped, firmware_shaped}
 use Rattle.header.proofs.WordApart.{word_byte}
-use Rattle.signing.specs.Digests.{vendor_rows, firmware_rows, answered, vendor_digest, firmware_digest}
+use Rattle.signing.specs.Digests.{vendor_rows, firmware_rows, vendor_digest, firmware_digest}
 use Rattle.signing.specs.Places.{vendor_places, firmware_places, when_answered, vendor_signature, firmware_signature}
 use Rattle.signing.specs.Theorems.{VendorStands, FirmwareStands, SignaturesStand}
-use Rattle.signing.proofs.Laws.{vendor_rows_shape, firmware_rows_shape, firmware_rows_own_shape, word_len, vendor_rows_apart, firmware_rows_apart}
+use Rattle.signing.proofs.Laws.{outcome_ok, outcome_err, vendor_rows_shape, firmware_rows_shape, firmware_rows_own_shape, word_len, vendor_rows_apart, firmware_rows_apart}
 
 -- ---- the word given apart
 
@@ -56,7 +57,7 @@ taken b a n s h = let d : s + n - s ≡ n = omega arith in rw (d, h)
 as_many : (b : List ℕ) (a n : ℕ) → a + n ≤ length b → length (between a (a + n) b) ≡ n
 as_many b a n h = ap length (sym (bytes_between n b a h)) ∙ length_bytes_lem n b a
 
-vendor_stands : (b : List ℕ) → first_failing (vendor_shape b) ≡ Pass → VendorStands b (vendor_places b)
+vendor_stands : (b : List ℕ) → first_failing (vendor_shape b) ≡ Ok tt → VendorStands b (vendor_places b)
 unfolding vendor_places
 vendor_stands b p =
     let k = vendor_shaped b p in
@@ -70,7 +71,7 @@ vendor_stands b p =
       none = (refl, refl);
     }
 
-firmware_stands : (b : List ℕ) → first_failing (vendor_shape b) ≡ Pass → first_failing (firmware_shape b) ≡ Pass → FirmwareStands b (firmware_places b)
+firmware_stands : (b : List ℕ) → first_failing (vendor_shape b) ≡ Ok tt → first_failing (firmware_shape b) ≡ Ok tt → FirmwareStands b (firmware_places b)
 unfolding firmware_places
 firmware_stands b p q =
     let k = vendor_shaped b p in
@@ -92,25 +93,29 @@ firmware_stands b p q =
 
 -- ---- by the answer to the digest question
 
--- the reply's outcome is the rows'
-outcome_is : {p : Outcome} (o : Outcome) (d : List ℕ) → (answered o d).outcome ≡ p → o ≡ p
-outcome_is Pass d h = h
-outcome_is (Refused r) d h = h
-
-vendor_outcome : {p : Outcome} (b : List ℕ) → (vendor_digest b).outcome ≡ p → first_failing (vendor_rows (vendor_magic_missing b) b) ≡ p
+-- its rows pass where there is a digest, and refuse as it does
+vendor_passes : (b : List ℕ) → IsOk (vendor_digest b) → first_failing (vendor_rows (vendor_magic_missing b) b) ≡ Ok tt
 unfolding vendor_digest
-vendor_outcome b h = outcome_is _ _ h
+vendor_passes b h = outcome_ok _ _ h
 
-firmware_outcome : {p : Outcome} (b : List ℕ) → (firmware_digest b).outcome ≡ p → first_failing (firmware_rows (vendor_magic_missing b) b) ≡ p
+vendor_refuses : (b : List ℕ) (r : Refusal) → vendor_digest b ≡ Err r → first_failing (vendor_rows (vendor_magic_missing b) b) ≡ Err r
+unfolding vendor_digest
+vendor_refuses b r h = outcome_err _ _ r h
+
+firmware_passes : (b : List ℕ) → IsOk (firmware_digest b) → first_failing (firmware_rows (vendor_magic_missing b) b) ≡ Ok tt
 unfolding firmware_digest
-firmware_outcome b h = outcome_is _ _ h
+firmware_passes b h = outcome_ok _ _ h
+
+firmware_refuses : (b : List ℕ) (r : Refusal) → firmware_digest b ≡ Err r → first_failing (firmware_rows (vendor_magic_missing b) b) ≡ Err r
+unfolding firmware_digest
+firmware_refuses b r h = outcome_err _ _ r h
 
 pub signatures_stand : SignaturesStand
 unfolding vendor_signature firmware_signature
 signatures_stand =
     record {
-      vendor = λ b h. let p = vendor_outcome b h in rw p (vendor_stands b (vendor_rows_shape _ b p));
-      vendor_none = λ b r h. rw (vendor_outcome b h);
-      firmware = λ b h. let p = firmware_outcome b h in rw p (firmware_stands b (firmware_rows_shape _ b p) (firmware_rows_own_shape _ b p));
-      firmware_none = λ b r h. rw (firmware_outcome b h);
+      vendor = λ b h. let p = vendor_passes b h in rw p (vendor_stands b (vendor_rows_shape _ b p));
+      vendor_none = λ b r h. rw (vendor_refuses b r h);
+      firmware = λ b h. let p = firmware_passes b h in rw p (firmware_stands b (firmware_rows_shape _ b p) (firmware_rows_own_shape _ b p));
+      firmware_none = λ b r h. rw (firmware_refuses b r h);
     }

@@ -1,15 +1,14 @@
 -- The two digests to be signed (specification, 5; asking for one is its "digest question"). Such a digest is BLAKE2s over the whole header with its last 65 bytes taken as zero.
 -- Assumes nothing.
-use Rattle.std.specs.Prelude.{ℕ, ◌+◌, List, ◌∷◌, ◌++◌, Bool, replicate}
+use Rattle.std.specs.Prelude.{ℕ, ◌+◌, List, ◌∷◌, ◌++◌, Bool, Result, Ok, Err}
 use Rattle.octets.specs.Read.{between}
 use Rattle.blake2s.specs.Rfc7693.{blake2s_of}
 use Rattle.blake2s.specs.Parts.{zero_tailed}
 use Rattle.header.specs.Layout.{vendor_len, mask_at}
 use Rattle.header.specs.Steps.{vendor_magic_missing}
 use Rattle.header.specs.Table.{Row, step, first_failing, vendor_shape, firmware_shape}
-use Rattle.header.specs.declared.Outcome.{Outcome}
-use Rattle.header.specs.declared.Outcome.TheVariants.{Pass, Refused}
-use Rattle.signing.specs.declared.Digest.{Digest}
+use Rattle.header.specs.declared.Refusal.{Refusal}
+use Rattle.header.specs.Outcome.{Outcome}
 
 -- what must hold for the vendor header's question: S1, which fails as told, and S3 to S8
 unfoldable pub vendor_rows : Bool → List ℕ → List Row
@@ -31,10 +30,14 @@ signed_at b at = zero_tailed (between at (at + 959) b)
 unfoldable pub signed_firmware : List ℕ → List ℕ
 signed_firmware b = signed_at b (vendor_len b)
 
--- the digest where the rows pass. After a refusal there is none, and zeros stand in its place
+-- a digest to be signed, or a refusal
+abbrev pub Digest : Type 0
+Digest = Result (List ℕ) Refusal
+
+-- the digest where the rows pass. After a refusal there is none
 abbrev pub answered : Outcome → List ℕ → Digest
-answered Pass digest = record { outcome = Pass; digest = digest }
-answered (Refused r) digest = record { outcome = Refused r; digest = replicate 32 0 }
+answered (Ok _) digest = Ok digest
+answered (Err r) digest = Err r
 
 unfoldable pub vendor_digest : List ℕ → Digest
 vendor_digest b = answered (first_failing (vendor_rows (vendor_magic_missing b) b)) (blake2s_of (signed_vendor b))

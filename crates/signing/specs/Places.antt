@@ -1,13 +1,12 @@
 -- What a signature chip needs of the bytes beside a digest to be signed (specification, 5.1): where the sigmask and the signature stand; and for the
 -- firmware header where the vendor's keys stand, and that exactly m of these n must sign. The vendor header's own keys and policy are the caller's.
 -- Assumes nothing.
-use Rattle.std.specs.Prelude.{ℕ, ◌+◌, List}
+use Rattle.std.specs.Prelude.{ℕ, ◌+◌, List, Ok, Err}
 use Rattle.octets.specs.declared.Span.{Span}
 use Rattle.header.specs.Layout.{vendor_len, mask_at, signers_needed, key_count, string_len_at}
 use Rattle.header.specs.Steps.{vendor_magic_missing}
 use Rattle.header.specs.Table.{first_failing}
-use Rattle.header.specs.declared.Outcome.{Outcome}
-use Rattle.header.specs.declared.Outcome.TheVariants.{Pass, Refused}
+use Rattle.header.specs.Outcome.{Outcome}
 use Rattle.signing.specs.Digests.{vendor_rows, firmware_rows}
 use Rattle.signing.specs.declared.places.Signature.{Signature}
 
@@ -36,8 +35,8 @@ firmware_places b =
 
 -- places where the digest question is answered, and none after a refusal
 abbrev pub when_answered : Outcome → Signature → Signature
-when_answered Pass places = places
-when_answered (Refused r) places = no_signature
+when_answered (Ok _) places = places
+when_answered (Err r) places = no_signature
 
 unfoldable pub vendor_signature : List ℕ → Signature
 vendor_signature b = when_answered (first_failing (vendor_rows (vendor_magic_missing b) b)) (vendor_places b)

@@ -1,12 +1,12 @@
 -- What is shown of the places of signatures: where a digest question is answered they stand in the bytes, and hold what the check and the digest
 -- take for sigmask, signature and keys. After a refusal there are none. And no signature is signed.
 -- Assumes nothing.
-use Rattle.std.specs.Prelude.{ℕ, ◌+◌, ◌-◌, ◌*◌, ◌≤◌, ◌≡◌, List, [], ◌∷◌, length, take, drop}
+use Rattle.std.specs.Prelude.{ℕ, ◌+◌, ◌-◌, ◌*◌, ◌≤◌, ◌≡◌, List, [], ◌∷◌, length, take, drop, Err}
+use Rattle.std.specs.Result.{IsOk}
 use Rattle.octets.specs.Read.{span_of}
 use Rattle.header.specs.Layout.{vendor_len, vendor_mask, firmware_mask, signers_needed, key_count}
 use Rattle.header.specs.Alike.{DifferInSignatures}
 use Rattle.header.specs.declared.Refusal.{Refusal}
-use Rattle.header.specs.declared.Outcome.TheVariants.{Pass, Refused}
 use Rattle.signing.specs.Digests.{vendor_digest, firmware_digest}
 use Rattle.signing.specs.Places.{vendor_signature, firmware_signature}
 use Rattle.signing.specs.declared.places.Signature.{Signature}
@@ -37,10 +37,10 @@ abbrev pub nothing : Signature
 nothing = record { mask = record { from = 0; to = 0 }; sig = record { from = 0; to = 0 }; keys = record { from = 0; to = 0 }; m = 0; n = 0 }
 
 pub record SignaturesStand : Type 0 where
-  pub vendor : (b : List ℕ) → (vendor_digest b).outcome ≡ Pass → VendorStands b (vendor_signature b)
-  pub vendor_none : (b : List ℕ) (r : Refusal) → (vendor_digest b).outcome ≡ Refused r → vendor_signature b ≡ nothing
-  pub firmware : (b : List ℕ) → (firmware_digest b).outcome ≡ Pass → FirmwareStands b (firmware_signature b)
-  pub firmware_none : (b : List ℕ) (r : Refusal) → (firmware_digest b).outcome ≡ Refused r → firmware_signature b ≡ nothing
+  pub vendor : (b : List ℕ) → IsOk (vendor_digest b) → VendorStands b (vendor_signature b)
+  pub vendor_none : (b : List ℕ) (r : Refusal) → vendor_digest b ≡ Err r → vendor_signature b ≡ nothing
+  pub firmware : (b : List ℕ) → IsOk (firmware_digest b) → FirmwareStands b (firmware_signature b)
+  pub firmware_none : (b : List ℕ) (r : Refusal) → firmware_digest b ≡ Err r → firmware_signature b ≡ nothing
 
 -- what differs inside the signatures alone has the same digests to be signed, and the same refusals of the two questions (specification, 18.2)
 pub record SignaturesAreNotSigned : Type 0 where

@@ -8,12 +8,12 @@ use crate::{firmware_rows, vendor_rows};
 use header::Outcome;
 use header::layout::{key_count, signers_needed, vendor_len};
 use header::steps::vendor_magic_missing;
-use octets::{Span, minus, starts_with};
+use octets::{Span, starts_with};
 
 // Where the sigmask and the signature of a header stand; and for the firmware header, where the
 // vendor's keys stand, and that exactly m of these n must sign. For the vendor header there are no keys
 // here, and m and n are 0: its keys and policy are the caller's own.
-#[derive(Clone, Copy)]
+#[derive(Clone, Copy, PartialEq, Eq, Debug)]
 pub struct Signature {
     pub mask: Span,
     pub sig: Span,
@@ -36,10 +36,11 @@ pub fn no_signature() -> Signature
     }
 }
 
+#[tactic(auto, unfolding(crate::specs::Places::vendor_places))]
 fn vendor_places(b: &[u8]) -> Signature
     ensures { result ≡ vendor_places b.now }
 {
-    let at = minus(vendor_len(b) as usize, 65);
+    let at = (vendor_len(b) as usize).saturating_sub(65);
     Signature {
         mask: Span {
             from: at,
@@ -55,6 +56,7 @@ fn vendor_places(b: &[u8]) -> Signature
     }
 }
 
+#[tactic(auto, unfolding(crate::specs::Places::firmware_places))]
 fn firmware_places(b: &[u8]) -> Signature
     ensures { result ≡ firmware_places b.now }
 {
@@ -71,20 +73,19 @@ fn firmware_places(b: &[u8]) -> Signature
         },
         keys: Span {
             from: 32,
-            to: 32 + 32 * (n as usize),
+            to: 32 + 32 * usize::from(n),
         },
-        m: signers_needed(b) as u32,
-        n: n as u32,
+        m: u32::from(signers_needed(b)),
+        n: u32::from(n),
     }
 }
 
 fn when_answered(outcome: Outcome, places: Signature) -> Signature
     ensures { result ≡ when_answered outcome places }
 {
-    let none = no_signature();
     match outcome {
-        Outcome::Refused(_) => none,
-        Outcome::Pass => places,
+        Err(_) => no_signature(),
+        Ok(()) => places,
     }
 }
 
@@ -105,7 +106,8 @@ pub fn firmware_signature(b: &[u8]) -> Signature
     )
 }
 
-// The vendor header's, where the first word is given apart: of first, and then the bytes from 4 on.
+// The vendor header's, where the first word is given apart: of first, and then the bytes from 4 on. Each of
+// the four calls names its rows and its places for `when_answered`, which is all that they share.
 pub fn vendor_signature_word_apart(first: [u8; 4], b: &[u8]) -> Signature
     ensures { result ≡ vendor_signature (first ++ drop 4 b.now) }
 {

@@ -1,6 +1,6 @@
 // The checks, for C (specification, 6).
 ghost use Rattle.std.specs.Prelude.{◌≡◌};
-ghost use Rattle.image.specs.Answer.{number_of};
+ghost use Rattle.header.specs.Outcome.{number_of};
 ghost use Rattle.image.specs.Check.{check_file, check_slot};
 ghost use Rattle.abi.specs.Inputs.{inputs_of};
 ghost use Rattle.abi.specs.Answers.{answer_words, image_words};
@@ -21,8 +21,7 @@ pub extern "C" fn thimmorel_check_file(
     ensures answer_after { answer.new ≡ answer_words (check_file bytes.now (inputs_of inputs.now)) }
     ensures image_after { image.new ≡ image_words (check_file bytes.now (inputs_of inputs.now)) image.old }
 {
-    let words = *inputs;
-    tell(check_file(bytes, inputs_of(words)), answer, image)
+    tell(check_file(bytes, inputs_of(*inputs)), answer, image)
 }
 
 // The check of a slot, which is the boot check.
@@ -37,6 +36,5 @@ pub extern "C" fn thimmorel_check_slot(
     ensures answer_after { answer.new ≡ answer_words (check_slot bytes.now (inputs_of inputs.now)) }
     ensures image_after { image.new ≡ image_words (check_slot bytes.now (inputs_of inputs.now)) image.old }
 {
-    let words = *inputs;
-    tell(check_slot(bytes, inputs_of(words)), answer, image)
+    tell(check_slot(bytes, inputs_of(*inputs)), answer, image)
 }

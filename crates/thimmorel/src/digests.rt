@@ -2,7 +2,7 @@
 ghost use Rattle.std.specs.Prelude.{◌≡◌};
 ghost use Rattle.header.specs.Outcome.{number_of};
 ghost use Rattle.signing.specs.Digests.{vendor_digest, firmware_digest};
-ghost use Rattle.abi.specs.Answers.{outcome_words, digest_bytes};
+ghost use Rattle.abi.specs.Answers.{answer_words, digest_bytes};
 
 use abi::digest::tell;
 use signing::{firmware_digest, vendor_digest};
@@ -14,9 +14,9 @@ pub extern "C" fn thimmorel_vendor_digest(
     answer: &mut [u32; 3],
     digest: &mut [u8; 32],
 ) -> u32
-    ensures value { result ≡ number_of (vendor_digest bytes.now).outcome }
-    ensures answer_after { answer.new ≡ outcome_words (vendor_digest bytes.now).outcome }
-    ensures digest_after { digest.new ≡ digest_bytes (vendor_digest bytes.now).outcome (vendor_digest bytes.now).digest digest.old }
+    ensures value { result ≡ number_of (vendor_digest bytes.now) }
+    ensures answer_after { answer.new ≡ answer_words (vendor_digest bytes.now) }
+    ensures digest_after { digest.new ≡ digest_bytes (vendor_digest bytes.now) digest.old }
 {
     tell(vendor_digest(bytes), answer, digest)
 }
@@ -28,9 +28,9 @@ pub extern "C" fn thimmorel_firmware_digest(
     answer: &mut [u32; 3],
     digest: &mut [u8; 32],
 ) -> u32
-    ensures value { result ≡ number_of (firmware_digest bytes.now).outcome }
-    ensures answer_after { answer.new ≡ outcome_words (firmware_digest bytes.now).outcome }
-    ensures digest_after { digest.new ≡ digest_bytes (firmware_digest bytes.now).outcome (firmware_digest bytes.now).digest digest.old }
+    ensures value { result ≡ number_of (firmware_digest bytes.now) }
+    ensures answer_after { answer.new ≡ answer_words (firmware_digest bytes.now) }
+    ensures digest_after { digest.new ≡ digest_bytes (firmware_digest bytes.now) digest.old }
 {
     tell(firmware_digest(bytes), answer, digest)
 }

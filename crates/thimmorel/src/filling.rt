@@ -26,12 +26,11 @@ pub fn fill_words(record: &mut [u32; 16], piece: &[u8], slot: &[u8], taken: &mut
     ensures record_after { «record».new ≡ words_after_plan (fill_plan (session_of «record».old) piece.now slot.now) «record».old }
     ensures taken_after { taken.new ≡ taken_word (fill_plan (session_of «record».old) piece.now slot.now).reply taken.old }
 {
-    let words = *record;
-    let plan = plan_fill(session_of(words), piece, slot);
-    let session = plan.session;
-    let reply = plan.reply;
-    let operation = plan.operation;
-    tell_taken(reply, taken);
-    let number = tell_record(session, reply, record);
-    Filled { number, operation }
+    let plan = plan_fill(session_of(*record), piece, slot);
+    tell_taken(plan.reply, taken);
+    let number = tell_record(plan.session, plan.reply, record);
+    Filled {
+        number,
+        operation: plan.operation,
+    }
 }

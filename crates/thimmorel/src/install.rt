@@ -25,9 +25,7 @@ pub extern "C" fn thimmorel_begin(slot: &[u8], file: usize, record: &mut [u32; 1
     ensures record_after { «record».new ≡ words_of (begin_of (length slot.now) file).session }
 {
     let turn = begin(slot, file);
-    let session = turn.session;
-    let reply = turn.reply;
-    tell_begun(session, reply, record)
+    tell_begun(turn.session, turn.reply, record)
 }
 
 // Stores zero in the first word, and then erases the next page.
@@ -37,11 +35,8 @@ pub extern "C" fn thimmorel_erase(record: &mut [u32; 16], slot: &mut [u8]) -> u3
     ensures record_after { «record».new ≡ words_after_turn (erase_of (session_of «record».old) slot.old) «record».old }
     ensures slot_after { slot.new ≡ erase_slot (session_of «record».old) slot.old }
 {
-    let words = *record;
-    let turn = erase(session_of(words), slot);
-    let session = turn.session;
-    let reply = turn.reply;
-    tell_record(session, reply, record)
+    let turn = erase(session_of(*record), slot);
+    tell_record(turn.session, turn.reply, record)
 }
 
 // Takes bytes of the piece, and says how many.
@@ -58,8 +53,7 @@ pub extern "C" fn thimmorel_fill(
     ensures taken_after { taken.new ≡ taken_word (fill_of (session_of «record».old) piece.now slot.old).reply taken.old }
 {
     let filled = fill_words(record, piece, slot, taken);
-    let operation = filled.operation;
-    perform(operation, slot);
+    perform(filled.operation, slot);
     filled.number
 }
 
@@ -75,11 +69,9 @@ pub extern "C" fn thimmorel_ask(
     ensures answers_after { answers.new ≡ asked_words (ask_of (session_of «record».now) slot.now) }
     ensures digests_after { digests.new ≡ cond (full (session_of «record».now) (length slot.now)) (asked_digests (ask_of (session_of «record».now) slot.now)) digests.old }
 {
-    let words = *record;
-    let s = session_of(words);
+    let s = session_of(*record);
     let asked = ask(s, slot);
-    let told = asked_words(asked);
-    *answers = told;
+    *answers = asked_words(asked);
     if !full(s, slot.len()) {
         return 19;
     }
@@ -96,9 +88,7 @@ pub extern "C" fn thimmorel_find_signatures(
 )
     ensures { signatures.new ≡ signatures_words (length slot.now) (signatures_of (session_of «record».now) slot.now) }
 {
-    let words = *record;
-    let told = signatures_words(slot.len(), installer::signatures(session_of(words), slot));
-    *signatures = told;
+    *signatures = signatures_words(slot.len(), installer::signatures(session_of(*record), slot));
 }
 
 // Checks the file, and finishes the install if it is accepted.
@@ -114,11 +104,7 @@ pub extern "C" fn thimmorel_close(
     ensures slot_after { slot.new ≡ close_slot (session_of «record».old) (inputs_of inputs.now) slot.old }
     ensures answer_after { answer.new ≡ reply_words (close_of (session_of «record».old) (inputs_of inputs.now) slot.old).reply }
 {
-    let words = *record;
-    let given = *inputs;
-    let turn = close(session_of(words), inputs_of(given), slot);
-    let session = turn.session;
-    let reply = turn.reply;
-    tell_answer(reply, answer);
-    tell_record(session, reply, record)
+    let turn = close(session_of(*record), inputs_of(*inputs), slot);
+    tell_answer(turn.reply, answer);
+    tell_record(turn.session, turn.reply, record)
 }

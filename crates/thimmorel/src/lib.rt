@@ -23,8 +23,7 @@ ghost use Rattle.sha256.specs.Fips180.{sha256_of};
 pub extern "C" fn thimmorel_digest(bytes: &[u8], digest: &mut [u8; 32])
     ensures { digest.new ≡ blake2s_of bytes.now }
 {
-    let d = blake2s::blake2s(bytes);
-    *digest = d;
+    *digest = blake2s::blake2s(bytes);
 }
 
 // The SHA-256 digest of the bytes.
@@ -32,6 +31,5 @@ pub extern "C" fn thimmorel_digest(bytes: &[u8], digest: &mut [u8; 32])
 pub extern "C" fn thimmorel_sha256(bytes: &[u8], digest: &mut [u8; 32])
     ensures { digest.new ≡ sha256_of bytes.now }
 {
-    let d = sha256::sha256(bytes);
-    *digest = d;
+    *digest = sha256::sha256(bytes);
 }

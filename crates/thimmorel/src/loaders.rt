@@ -1,11 +1,10 @@
 // The loader, for C (specification, 16): its checks, its digest question and the choice.
 ghost use Rattle.std.specs.Prelude.{◌≡◌};
-ghost use Rattle.header.specs.Outcome as outcome;
-ghost use Rattle.image.specs.Answer as checked;
 ghost use Rattle.loader.specs.Check.{check_card, check_internal};
 ghost use Rattle.loader.specs.Digest.{loader_digest};
-ghost use Rattle.loader.specs.Choice.{number_of, choose};
-ghost use Rattle.abi.specs.Answers.{answer_words, image_words, outcome_words, digest_bytes};
+ghost use Rattle.header.specs.Outcome.{number_of};
+ghost use Rattle.loader.specs.Choice.{choose};
+ghost use Rattle.abi.specs.Answers.{answer_words, image_words, digest_bytes};
 ghost use Rattle.abi.specs.Loaders.{area_inputs_of, choice_words, loader_words};
 
 use abi::answer::tell;
@@ -22,12 +21,11 @@ pub extern "C" fn thimmorel_check_card(
     answer: &mut [u32; 3],
     image: &mut [u32; 4],
 ) -> u32
-    ensures value { result ≡ checked.number_of (check_card bytes.now (area_inputs_of inputs.now)) }
+    ensures value { result ≡ number_of (check_card bytes.now (area_inputs_of inputs.now)) }
     ensures answer_after { answer.new ≡ answer_words (check_card bytes.now (area_inputs_of inputs.now)) }
     ensures image_after { image.new ≡ image_words (check_card bytes.now (area_inputs_of inputs.now)) image.old }
 {
-    let words = *inputs;
-    tell(check_card(bytes, area_inputs_of(words)), answer, image)
+    tell(check_card(bytes, area_inputs_of(*inputs)), answer, image)
 }
 
 // The check of the loader in the internal area.
@@ -38,12 +36,15 @@ pub extern "C" fn thimmorel_check_internal(
     answer: &mut [u32; 3],
     image: &mut [u32; 4],
 ) -> u32
-    ensures value { result ≡ checked.number_of (check_internal bytes.now (area_inputs_of inputs.now)) }
+    ensures value { result ≡ number_of (check_internal bytes.now (area_inputs_of inputs.now)) }
     ensures answer_after { answer.new ≡ answer_words (check_internal bytes.now (area_inputs_of inputs.now)) }
     ensures image_after { image.new ≡ image_words (check_internal bytes.now (area_inputs_of inputs.now)) image.old }
 {
-    let words = *inputs;
-    tell(check_internal(bytes, area_inputs_of(words)), answer, image)
+    tell(
+        check_internal(bytes, area_inputs_of(*inputs)),
+        answer,
+        image,
+    )
 }
 
 // The digest to be signed of a loader.
@@ -53,9 +54,9 @@ pub extern "C" fn thimmorel_loader_digest(
     answer: &mut [u32; 3],
     digest: &mut [u8; 32],
 ) -> u32
-    ensures value { result ≡ outcome.number_of (loader_digest bytes.now).outcome }
-    ensures answer_after { answer.new ≡ outcome_words (loader_digest bytes.now).outcome }
-    ensures digest_after { digest.new ≡ digest_bytes (loader_digest bytes.now).outcome (loader_digest bytes.now).digest digest.old }
+    ensures value { result ≡ number_of (loader_digest bytes.now) }
+    ensures answer_after { answer.new ≡ answer_words (loader_digest bytes.now) }
+    ensures digest_after { digest.new ≡ digest_bytes (loader_digest bytes.now) digest.old }
 {
     tell_digest(loader_digest(bytes), answer, digest)
 }
@@ -73,8 +74,7 @@ pub extern "C" fn thimmorel_choose_loader<'a>(
     ensures answer_after { answer.new ≡ choice_words (choose card.now internal.now (area_inputs_of inputs.now)) }
     ensures loader_after { loader.new ≡ loader_words (choose card.now internal.now (area_inputs_of inputs.now)) card.now internal.now }
 {
-    let words = *inputs;
-    let choice = choose(card, internal, area_inputs_of(words));
+    let choice = choose(card, internal, area_inputs_of(*inputs));
     let place = loader_words(choice, card, internal);
     *loader = place;
     tell_choice(choice, answer)

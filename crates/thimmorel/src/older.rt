@@ -1,19 +1,19 @@
 // The older model, for C (specification, 17): its checks, its digest questions, and where the code of
 // an image stands.
 ghost use Rattle.std.specs.Prelude.{◌≡◌};
-ghost use Rattle.header.specs.Outcome as outcome;
-ghost use Rattle.image.specs.Answer.{number_of};
+ghost use Rattle.header.specs.Outcome.{number_of};
 ghost use Rattle.older_model.specs.Steps.{legacy_len};
 ghost use Rattle.older_model.specs.Check.{check_v2_file, check_v2_slot, check_pair_file, check_pair_slot};
 ghost use Rattle.older_model.specs.Digest.{v2_digest, pair_v2_digest, pair_legacy_digest};
-ghost use Rattle.abi.specs.Answers.{answer_words, image_words, outcome_words, digest_bytes};
+ghost use Rattle.abi.specs.Answers.{answer_words, image_words, digest_bytes};
 ghost use Rattle.abi.specs.Older.{older_inputs_of, code_words};
 
 use abi::answer::tell;
 use abi::digest::tell as tell_digest;
 use abi::older::{code_words, older_inputs_of};
-use older_model::digest::{pair_legacy_digest, pair_v2_digest, v2_digest};
-use older_model::{check_pair_file, check_pair_slot, check_v2_file, check_v2_slot};
+use older_model::digest::{pair_legacy_digest, v2_digest};
+use older_model::forms::{Alone, Pair};
+use older_model::{check_file, check_slot};
 
 // The check of a V2 header and code, as a file.
 #[unsafe(no_mangle)]
@@ -27,8 +27,11 @@ pub extern "C" fn thimmorel_check_v2_file(
     ensures answer_after { answer.new ≡ answer_words (check_v2_file bytes.now (older_inputs_of inputs.now)) }
     ensures image_after { image.new ≡ image_words (check_v2_file bytes.now (older_inputs_of inputs.now)) image.old }
 {
-    let words = *inputs;
-    tell(check_v2_file(bytes, older_inputs_of(words)), answer, image)
+    tell(
+        check_file::<Alone>(bytes, older_inputs_of(*inputs)),
+        answer,
+        image,
+    )
 }
 
 // The check of a V2 header and code in a slot.
@@ -43,8 +46,11 @@ pub extern "C" fn thimmorel_check_v2_slot(
     ensures answer_after { answer.new ≡ answer_words (check_v2_slot bytes.now (older_inputs_of inputs.now)) }
     ensures image_after { image.new ≡ image_words (check_v2_slot bytes.now (older_inputs_of inputs.now)) image.old }
 {
-    let words = *inputs;
-    tell(check_v2_slot(bytes, older_inputs_of(words)), answer, image)
+    tell(
+        check_slot::<Alone>(bytes, older_inputs_of(*inputs)),
+        answer,
+        image,
+    )
 }
 
 // The check of the pair, as a file.
@@ -59,9 +65,8 @@ pub extern "C" fn thimmorel_check_pair_file(
     ensures answer_after { answer.new ≡ answer_words (check_pair_file bytes.now (older_inputs_of inputs.now)) }
     ensures image_after { image.new ≡ image_words (check_pair_file bytes.now (older_inputs_of inputs.now)) image.old }
 {
-    let words = *inputs;
     tell(
-        check_pair_file(bytes, older_inputs_of(words)),
+        check_file::<Pair>(bytes, older_inputs_of(*inputs)),
         answer,
         image,
     )
@@ -79,9 +84,8 @@ pub extern "C" fn thimmorel_check_pair_slot(
     ensures answer_after { answer.new ≡ answer_words (check_pair_slot bytes.now (older_inputs_of inputs.now)) }
     ensures image_after { image.new ≡ image_words (check_pair_slot bytes.now (older_inputs_of inputs.now)) image.old }
 {
-    let words = *inputs;
     tell(
-        check_pair_slot(bytes, older_inputs_of(words)),
+        check_slot::<Pair>(bytes, older_inputs_of(*inputs)),
         answer,
         image,
     )
@@ -94,11 +98,11 @@ pub extern "C" fn thimmorel_v2_digest(
     answer: &mut [u32; 3],
     digest: &mut [u8; 32],
 ) -> u32
-    ensures value { result ≡ outcome.number_of (v2_digest bytes.now).outcome }
-    ensures answer_after { answer.new ≡ outcome_words (v2_digest bytes.now).outcome }
-    ensures digest_after { digest.new ≡ digest_bytes (v2_digest bytes.now).outcome (v2_digest bytes.now).digest digest.old }
+    ensures value { result ≡ number_of (v2_digest bytes.now) }
+    ensures answer_after { answer.new ≡ answer_words (v2_digest bytes.now) }
+    ensures digest_after { digest.new ≡ digest_bytes (v2_digest bytes.now) digest.old }
 {
-    tell_digest(v2_digest(bytes), answer, digest)
+    tell_digest(v2_digest::<Alone>(bytes), answer, digest)
 }
 
 // The digest to be signed of the V2 header in the pair.
@@ -108,11 +112,11 @@ pub extern "C" fn thimmorel_pair_v2_digest(
     answer: &mut [u32; 3],
     digest: &mut [u8; 32],
 ) -> u32
-    ensures value { result ≡ outcome.number_of (pair_v2_digest bytes.now).outcome }
-    ensures answer_after { answer.new ≡ outcome_words (pair_v2_digest bytes.now).outcome }
-    ensures digest_after { digest.new ≡ digest_bytes (pair_v2_digest bytes.now).outcome (pair_v2_digest bytes.now).digest digest.old }
+    ensures value { result ≡ number_of (pair_v2_digest bytes.now) }
+    ensures answer_after { answer.new ≡ answer_words (pair_v2_digest bytes.now) }
+    ensures digest_after { digest.new ≡ digest_bytes (pair_v2_digest bytes.now) digest.old }
 {
-    tell_digest(pair_v2_digest(bytes), answer, digest)
+    tell_digest(v2_digest::<Pair>(bytes), answer, digest)
 }
 
 // The digest to be signed of the legacy header in the pair.
@@ -122,9 +126,9 @@ pub extern "C" fn thimmorel_pair_legacy_digest(
     answer: &mut [u32; 3],
     digest: &mut [u8; 32],
 ) -> u32
-    ensures value { result ≡ outcome.number_of (pair_legacy_digest bytes.now).outcome }
-    ensures answer_after { answer.new ≡ outcome_words (pair_legacy_digest bytes.now).outcome }
-    ensures digest_after { digest.new ≡ digest_bytes (pair_legacy_digest bytes.now).outcome (pair_legacy_digest bytes.now).digest digest.old }
+    ensures value { result ≡ number_of (pair_legacy_digest bytes.now) }
+    ensures answer_after { answer.new ≡ answer_words (pair_legacy_digest bytes.now) }
+    ensures digest_after { digest.new ≡ digest_bytes (pair_legacy_digest bytes.now) digest.old }
 {
     tell_digest(pair_legacy_digest(bytes), answer, digest)
 }
@@ -135,8 +139,7 @@ pub extern "C" fn thimmorel_pair_legacy_digest(
 pub extern "C" fn thimmorel_find_v2_code(bytes: &[u8], number: u32, code: &mut [usize; 2])
     ensures { code.new ≡ code_words 0 number bytes.now }
 {
-    let words = code_words(bytes, 0, number);
-    *code = words;
+    *code = code_words(bytes, 0, number);
 }
 
 // Where the code of the pair stands in checked bytes: start and length. After a refusal, which
@@ -145,6 +148,5 @@ pub extern "C" fn thimmorel_find_v2_code(bytes: &[u8], number: u32, code: &mut [
 pub extern "C" fn thimmorel_find_pair_code(bytes: &[u8], number: u32, code: &mut [usize; 2])
     ensures { code.new ≡ code_words legacy_len number bytes.now }
 {
-    let words = code_words(bytes, 256, number);
-    *code = words;
+    *code = code_words(bytes, 256, number);
 }

@@ -20,8 +20,7 @@ use signing::places::{firmware_signature, vendor_signature};
 pub extern "C" fn thimmorel_find_parts(bytes: &[u8], number: u32, parts: &mut [usize; 6])
     ensures { parts.new ≡ part_words number bytes.now }
 {
-    let words = part_words(bytes, number);
-    *parts = words;
+    *parts = part_words(bytes, number);
 }
 
 // What the chip needs for the vendor header.
@@ -29,8 +28,7 @@ pub extern "C" fn thimmorel_find_parts(bytes: &[u8], number: u32, parts: &mut [u
 pub extern "C" fn thimmorel_find_vendor_signature(bytes: &[u8], signature: &mut [usize; 8])
     ensures { signature.new ≡ signature_words (length bytes.now) (vendor_signature bytes.now) }
 {
-    let words = signature_words(bytes.len(), vendor_signature(bytes));
-    *signature = words;
+    *signature = signature_words(bytes.len(), vendor_signature(bytes));
 }
 
 // What the chip needs for the firmware header.
@@ -38,8 +36,7 @@ pub extern "C" fn thimmorel_find_vendor_signature(bytes: &[u8], signature: &mut 
 pub extern "C" fn thimmorel_find_firmware_signature(bytes: &[u8], signature: &mut [usize; 8])
     ensures { signature.new ≡ signature_words (length bytes.now) (firmware_signature bytes.now) }
 {
-    let words = signature_words(bytes.len(), firmware_signature(bytes));
-    *signature = words;
+    *signature = signature_words(bytes.len(), firmware_signature(bytes));
 }
 
 // The trust reading of a vendor header.
@@ -47,6 +44,5 @@ pub extern "C" fn thimmorel_find_firmware_signature(bytes: &[u8], signature: &mu
 pub extern "C" fn thimmorel_read_trust(bytes: &[u8], trust: &mut [u32; 5])
     ensures { trust.new ≡ trust_words (trust_of (vtrust bytes.now)) }
 {
-    let words = trust_words(trust_of(vtrust(bytes)));
-    *trust = words;
+    *trust = trust_words(trust_of(vtrust(bytes)));
 }

@@ -25,13 +25,9 @@ pub extern "C" fn thimmorel_plan_erase(
     ensures record_after { «record».new ≡ words_after_plan (erase_plan (session_of «record».old) slot.now) «record».old }
     ensures operation_after { operation.new ≡ operation_words (erase_plan (session_of «record».old) slot.now).operation }
 {
-    let words = *record;
-    let plan = plan_erase(session_of(words), slot);
-    let session = plan.session;
-    let reply = plan.reply;
-    let next = plan.operation;
-    tell_operation(next, operation);
-    tell_record(session, reply, record)
+    let plan = plan_erase(session_of(*record), slot);
+    tell_operation(plan.operation, operation);
+    tell_record(plan.session, plan.reply, record)
 }
 
 // Takes bytes of the piece, and says how many; a completed word is to be stored.
@@ -49,8 +45,7 @@ pub extern "C" fn thimmorel_plan_fill(
     ensures operation_after { operation.new ≡ operation_words (fill_plan (session_of «record».old) piece.now slot.now).operation }
 {
     let filled = fill_words(record, piece, slot, taken);
-    let next = filled.operation;
-    tell_operation(next, operation);
+    tell_operation(filled.operation, operation);
     filled.number
 }
 
@@ -68,15 +63,10 @@ pub extern "C" fn thimmorel_plan_close(
     ensures answer_after { answer.new ≡ reply_words (close_plan (session_of «record».old) (inputs_of inputs.now) slot.now).reply }
     ensures operation_after { operation.new ≡ operation_words (close_plan (session_of «record».old) (inputs_of inputs.now) slot.now).operation }
 {
-    let words = *record;
-    let given = *inputs;
-    let plan = plan_close(session_of(words), inputs_of(given), slot);
-    let session = plan.session;
-    let reply = plan.reply;
-    let next = plan.operation;
-    tell_answer(reply, answer);
-    tell_operation(next, operation);
-    tell_record(session, reply, record)
+    let plan = plan_close(session_of(*record), inputs_of(*inputs), slot);
+    tell_answer(plan.reply, answer);
+    tell_operation(plan.operation, operation);
+    tell_record(plan.session, plan.reply, record)
 }
 
 // Finishes the install once the file's first word stands in the slot.
@@ -85,9 +75,6 @@ pub extern "C" fn thimmorel_confirm(record: &mut [u32; 16], slot: &[u8]) -> u32
     ensures value { result ≡ number_of (confirm_of (session_of «record».old) slot.now).reply }
     ensures record_after { «record».new ≡ words_after_turn (confirm_of (session_of «record».old) slot.now) «record».old }
 {
-    let words = *record;
-    let turn = confirm(session_of(words), slot);
-    let session = turn.session;
-    let reply = turn.reply;
-    tell_record(session, reply, record)
+    let turn = confirm(session_of(*record), slot);
+    tell_record(turn.session, turn.reply, record)
 }

@@ -23,12 +23,11 @@ pub extern "C" fn thimmorel_write_vendor(
     ensures out_after { out.new ≡ cond (vendor_fits numbers.now) (vendor_output (vendor_of numbers.now) keys.now string.now picture.now sig.now out.old) out.old }
     ensures written_after { written.new ≡ cond (vendor_fits numbers.now) (written_word (vendor_answer (vendor_of numbers.now) keys.now string.now picture.now out.old) written.old) written.old }
 {
-    let words = *numbers;
-    if !vendor_fits(words) {
+    if !vendor_fits(*numbers) {
         return 28;
     }
     tell(
-        write_vendor(vendor_of(words), keys, string, picture, sig, out),
+        write_vendor(vendor_of(*numbers), keys, string, picture, sig, out),
         written,
     )
 }
@@ -47,12 +46,11 @@ pub extern "C" fn thimmorel_write_firmware(
     ensures out_after { out.new ≡ cond (firmware_fits numbers.now) (firmware_output (get_or numbers.now 0 0) (firmware_of numbers.now) code.now sig.now out.old) out.old }
     ensures written_after { written.new ≡ cond (firmware_fits numbers.now) (written_word (firmware_answer (get_or numbers.now 0 0) code.now out.old) written.old) written.old }
 {
-    let words = *numbers;
-    if !firmware_fits(words) {
+    if !firmware_fits(*numbers) {
         return 28;
     }
     tell(
-        write_firmware(words[0], firmware_of(words), code, sig, out),
+        write_firmware(numbers[0], firmware_of(*numbers), code, sig, out),
         written,
     )
 }

@@ -1,13 +1,12 @@
 -- The worked numbers P1 to P12 (specification, 13), as one table: what a definition gives, and what the specification says.
 -- Assumes nothing.
-use Rattle.std.specs.Prelude.{ℕ, ◌+◌, ◌-◌, ◌*◌, ◌≡◌, List, [], ◌∷◌, ◌++◌, true, false, length, replicate}
+use Rattle.std.specs.Prelude.{ℕ, ◌+◌, ◌-◌, ◌*◌, ◌≡◌, List, [], ◌∷◌, ◌++◌, true, false, length, replicate, Ok}
 use Rattle.header.specs.Layout.{TRZV, picture_start, first_room}
 use Rattle.header.specs.Table.{first_failing, vendor_shape, vendor_policy}
 use Rattle.header.specs.Outcome.{number_of}
 use Rattle.header.specs.Trust.{trust_of}
 use Rattle.image.specs.Answer.{image_of}
 use Rattle.image.specs.Parts.{picture_of, when_accepted}
-use Rattle.image.specs.declared.Answer.TheVariants.{Accepted}
 use Rattle.sessions.specs.Run.{History, made}
 use Rattle.header.specs.declared.Inputs.{Inputs}
 
@@ -60,7 +59,7 @@ worked_numbers =
     (picture_start 2 4 gives 104)
     ∷ (picture_start 2 3 gives 100)
     -- P3: the bytes of the picture area that is handed back
-    ∷ (length (when_accepted (Accepted (image_of (vendor 2 4 0 0))) (picture_of (vendor 2 4 0 0))) gives 343)
+    ∷ (length (when_accepted (Ok (image_of (vendor 2 4 0 0))) (picture_of (vendor 2 4 0 0))) gives 343)
     -- P4, P5: a string that leaves room, and one that does not
     ∷ (shape_of 8 155 gives 0)
     ∷ (shape_of 8 156 gives 5)

@@ -23,7 +23,7 @@ use Rattle.image.specs.Answer.{version_at, image_of}
 use Rattle.image.specs.Check.{check_file}
 use Rattle.image.specs.Parts.{string_of, picture_of}
 use Rattle.image.specs.declared.Image.{Image}
-use Rattle.image.specs.declared.Answer.TheVariants.{Accepted}
+use Rattle.std.specs.Prelude.{Ok}
 use Rattle.image.proofs.Facts.{RowsPass, Sound, sound, file_rows_pass, file_told, file_length, length_part, code_length}
 use Rattle.image.proofs.Parts.{slot_rows_pass, slot_told, parts_stand}
 use Rattle.writer.specs.Vendor.{vendor_size, vendor_head, vendor_front, vendor_back, vendor_fields, vendor_header, vendor_refusals}
@@ -73,7 +73,7 @@ before x b n h e =
 -- ---- the image
 
 abbrev parts : List ℕ → Parts
-parts b = parts_of (Accepted (image_of b)) b
+parts b = parts_of (Ok (image_of b)) b
 
 module _ (b : List ℕ) (bytes : (i : ℕ) → get_or b i 0 < 256) (magic : starts_with TRZV b ≡ true) (k : Sound b) where
   abbrev v : ℕ
@@ -241,11 +241,11 @@ module _ {tail_wrong : Bool} {given : Inputs} (b : List ℕ) (bytes : (i : ℕ) 
         same = λ vout fout h g. written_of s (record { size = parts_size b bytes m k; taken = parts_taken b bytes m k (length vout) (length fout) h g; is = file_again b bytes m k });
       }
 
-  told_again : {i : Image} → image_of b ≡ i → Rewritten (parts_of (Accepted i) b) given i.v (take (i.v + 1024 + i.codelen) b)
-  told_again e = subst (λ (i : Image). Rewritten (parts_of (Accepted i) b) given i.v (take (i.v + 1024 + i.codelen) b)) e own_again
+  told_again : {i : Image} → image_of b ≡ i → Rewritten (parts_of (Ok i) b) given i.v (take (i.v + 1024 + i.codelen) b)
+  told_again e = subst (λ (i : Image). Rewritten (parts_of (Ok i) b) given i.v (take (i.v + 1024 + i.codelen) b)) e own_again
 
 -- an accepted file ends where its image does
-file_ends : (b : List ℕ) (given : Inputs) (i : Image) → check_file b given ≡ Accepted i → take (i.v + 1024 + i.codelen) b ≡ b
+file_ends : (b : List ℕ) (given : Inputs) (i : Image) → check_file b given ≡ Ok i → take (i.v + 1024 + i.codelen) b ≡ b
 unfolding image_of
 file_ends b given i h =
     let l = file_length (vendor_magic_missing b) b given (file_rows_pass b given i h) in

@@ -8,11 +8,10 @@ use Rattle.blake2s.specs.Rfc7693.{blake2s_of}
 use Rattle.blake2s.specs.Parts.{zero_tailed}
 use Rattle.header.specs.Steps.{vendor_magic_missing}
 use Rattle.header.specs.Table.{first_failing}
-use Rattle.header.specs.declared.Outcome.{Outcome}
-use Rattle.header.specs.declared.Outcome.TheVariants.{Pass}
+use Rattle.std.specs.Prelude.{Ok, is_ok}
 use Rattle.header.proofs.Rows.{passes_here, stage_passes}
-use Rattle.signing.specs.Digests.{vendor_rows, firmware_rows, signed_vendor, signed_firmware, answered, vendor_digest, firmware_digest}
-use Rattle.signing.specs.declared.Digest.{Digest}
+use Rattle.signing.specs.Digests.{vendor_rows, firmware_rows, signed_vendor, signed_firmware, vendor_digest, firmware_digest}
+use Rattle.signing.proofs.Laws.{replies_digest}
 use Rattle.writer.specs.Vendor.{vendor_head, vendor_front}
 use Rattle.writer.specs.Firmware.{firmware_head}
 use Rattle.writer.specs.Parts.{Parts, Sized, WrittenFile}
@@ -27,18 +26,12 @@ unsigned_vendor p = vendor_unsigned (size_of p) p.vendor p.keys p.string p.pictu
 abbrev unsigned_firmware : Parts → List ℕ
 unsigned_firmware p = firmware_unsigned p.firmware (length p.code) (hashes_in p) p.sig []
 
-abbrev reply : List ℕ → Digest
-reply d = record { outcome = Pass; digest = d }
-
-told : {o : Outcome} (d e : List ℕ) → o ≡ Pass → d ≡ e → answered o d ≡ reply e
-told d e h g = rw h (ap reply g)
-
 module _ {p : Parts} (s : Sized p) {vroom froom : ℕ} (t : Taken p vroom froom) where
-  vendor_rows_pass : first_failing (vendor_rows (vendor_magic_missing (file_of p)) (file_of p)) ≡ Pass
+  vendor_rows_pass : first_failing (vendor_rows (vendor_magic_missing (file_of p)) (file_of p)) ≡ Ok tt
   unfolding vendor_rows
   vendor_rows_pass = sym (passes_here _ _ (magic_there s t) (sym (vendor_shape_passes s t)))
 
-  firmware_rows_pass : first_failing (firmware_rows (vendor_magic_missing (file_of p)) (file_of p)) ≡ Pass
+  firmware_rows_pass : first_failing (firmware_rows (vendor_magic_missing (file_of p)) (file_of p)) ≡ Ok tt
   unfolding firmware_rows
   firmware_rows_pass =
       sym (passes_here _ _ (magic_there s t) (stage_passes _ _ (sym (vendor_shape_passes s t)) refl (sym (firmware_shape_passes s t))))
@@ -55,20 +48,20 @@ module _ {p : Parts} (s : Sized p) {vroom froom : ℕ} (t : Taken p vroom froom)
       rw ((vendor_reads s t).len, file_is p)
       (ap zero_tailed (firmware_signed_part p.firmware (length p.code) (hashes_in p) p.sig p.code (hashes_length p) (vendor_in p) (size_of p) (vendor_in_length s t)))
 
-  vendor_answer : vendor_digest (file_of p) ≡ reply (blake2s_of (zero_tailed (unsigned_vendor p)))
+  vendor_answer : vendor_digest (file_of p) ≡ Ok (blake2s_of (zero_tailed (unsigned_vendor p)))
   unfolding vendor_digest
-  vendor_answer = told _ _ vendor_rows_pass (ap blake2s_of signed_vendor_is)
+  vendor_answer = sym (replies_digest vendor_rows_pass (ap blake2s_of (sym signed_vendor_is)))
 
-  firmware_answer : firmware_digest (file_of p) ≡ reply (blake2s_of (zero_tailed (unsigned_firmware p)))
+  firmware_answer : firmware_digest (file_of p) ≡ Ok (blake2s_of (zero_tailed (unsigned_firmware p)))
   unfolding firmware_digest
-  firmware_answer = told _ _ firmware_rows_pass (ap blake2s_of signed_firmware_is)
+  firmware_answer = sym (replies_digest firmware_rows_pass (ap blake2s_of (sym signed_firmware_is)))
 
 -- of a file that the writers left
 module _ {p : Parts} {v : ℕ} {vout fout file : List ℕ} (s : Sized p) (w : WrittenFile p v vout fout file) where
-  vendor_answered : vendor_digest file ≡ reply (blake2s_of (zero_tailed (unsigned_vendor p)))
+  vendor_answered : vendor_digest file ≡ Ok (blake2s_of (zero_tailed (unsigned_vendor p)))
   vendor_answered = let f = written_is s w in ap vendor_digest f.is ∙ vendor_answer s f.taken
 
-  firmware_answered : firmware_digest file ≡ reply (blake2s_of (zero_tailed (unsigned_firmware p)))
+  firmware_answered : firmware_digest file ≡ Ok (blake2s_of (zero_tailed (unsigned_firmware p)))
   firmware_answered = let f = written_is s w in ap firmware_digest f.is ∙ firmware_answer s f.taken
 
 -- ---- other sigmasks and signatures
@@ -88,14 +81,14 @@ module _ (p : Parts) (vmask : ℕ) (vsig : List ℕ) (mask : ℕ) (sig : List �
 pub written_images_answer : WrittenImagesAnswer
 written_images_answer =
     record {
-      answered = λ p v vout fout file s w. (ap (λ (d : Digest). d.outcome) (vendor_answered s w), ap (λ (d : Digest). d.outcome) (firmware_answered s w));
+      answered = λ p v vout fout file s w. (ap is_ok (vendor_answered s w), ap is_ok (firmware_answered s w));
       same = λ p v vout fout file s w vmask vsig mask sig l m w' vout' fout' file' r.
           let s' = resigned_sized p vmask vsig mask sig l m s in (
             vendor_answered s' r
-                ∙ ap (λ (l : List ℕ). reply (blake2s_of (zero_tailed l))) (same_vendor p vmask vsig mask sig)
+                ∙ ap (λ (l : List ℕ). Ok (blake2s_of (zero_tailed l))) (same_vendor p vmask vsig mask sig)
                 ∙ sym (vendor_answered s w),
             firmware_answered s' r
-                ∙ ap (λ (l : List ℕ). reply (blake2s_of (zero_tailed l))) (same_firmware p vmask vsig mask sig)
+                ∙ ap (λ (l : List ℕ). Ok (blake2s_of (zero_tailed l))) (same_firmware p vmask vsig mask sig)
                 ∙ sym (firmware_answered s w),
           );
     }

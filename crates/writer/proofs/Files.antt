@@ -6,13 +6,12 @@ use Prim.Native.Nat.{ℕ, ◌+◌}
 use lib.ListN.{length, take, length-append}
 use Rattle.header.specs.Layout.{first_room}
 use Rattle.header.specs.Table.{first_failing}
-use Rattle.header.specs.declared.Outcome.TheVariants.{Pass}
+use Rattle.std.specs.Prelude.{Ok}
 use Rattle.blake2s.specs.Rfc7693.{blake2s_of}
 use Rattle.image.specs.Chunks.{hashes_of}
 use Rattle.writer.specs.Vendor.{vendor_size, vendor_fields, vendor_refusals, vendor_output}
 use Rattle.writer.specs.Firmware.{joined, firmware_fields, firmware_header, firmware_refusals, firmware_output}
 use Rattle.writer.specs.Parts.{Parts, Sized, WrittenFile}
-use Rattle.writer.specs.declared.Written.TheVariants.{Header}
 use Rattle.writer.proofs.Taken.{VendorFits, vendor_fits, FirmwareFits, firmware_fits, succeeded, left}
 use Rattle.writer.proofs.Joined.{length_hashes}
 use Rattle.writer.proofs.Standing.{vendor_length, firmware_length}
@@ -41,15 +40,15 @@ file_is p = refl
 
 -- both writers take the parts, in outputs of these lengths
 pub record Taken (p : Parts) (vroom froom : ℕ) : Type 0 where
-  pub vendor_taken : first_failing (vendor_refusals p.vendor (length p.keys) (length p.string) (length p.picture) vroom) ≡ Pass
-  pub firmware_taken : first_failing (firmware_refusals (size_of p) (length p.code) froom) ≡ Pass
+  pub vendor_taken : first_failing (vendor_refusals p.vendor (length p.keys) (length p.string) (length p.picture) vroom) ≡ Ok tt
+  pub firmware_taken : first_failing (firmware_refusals (size_of p) (length p.code) froom) ≡ Ok tt
 
 module _ {p : Parts} {vroom froom : ℕ} (t : Taken p vroom froom) where
   pub vendor_fit : VendorFits p.vendor (length p.keys) (length p.string) (length p.picture) vroom
-  vendor_fit = vendor_fits _ _ _ _ _ t.vendor_taken
+  vendor_fit = vendor_fits refl t.vendor_taken
 
   pub firmware_fit : FirmwareFits (size_of p) (length p.code) froom
-  firmware_fit = firmware_fits _ _ _ t.firmware_taken
+  firmware_fit = firmware_fits refl t.firmware_taken
 
 -- so long are they
 pub hashes_length : (p : Parts) → length (joined (hashes_in p)) ≡ 512
@@ -91,14 +90,14 @@ module _ {p : Parts} {v : ℕ} (s : Sized p) (vout fout : List ℕ) (e : v ≡ s
 pub written_is : {p : Parts} {v : ℕ} {vout fout file : List ℕ} → Sized p → WrittenFile p v vout fout file → IsFile p v (length vout) (length fout) file
 written_is {p} {v} {vout} {fout} s w =
     let a = succeeded _ _ v w.vendor in
-    let b : first_failing (firmware_refusals v (length p.code) (length fout)) ≡ Pass = (succeeded _ _ 1024 w.firmware).0 in
+    let b : first_failing (firmware_refusals v (length p.code) (length fout)) ≡ Ok tt = (succeeded _ _ 1024 w.firmware).0 in
     let t : Taken p (length vout) (length fout) = record { vendor_taken = a.0; firmware_taken = rw a.1 at b } in
     record { size = a.1; taken = t; is = w.joined ∙ outputs_are s vout fout a.1 t }
 
 pub written_of : {p : Parts} {v : ℕ} {vout fout file : List ℕ} → Sized p → IsFile p v (length vout) (length fout) file → WrittenFile p v vout fout file
 written_of {vout = vout} {fout = fout} s f =
     record {
-      vendor = rw f.taken.vendor_taken (ap Header (sym f.size));
+      vendor = rw f.taken.vendor_taken (ap Ok (sym f.size));
       firmware = rw (f.size, f.taken.firmware_taken);
       joined = f.is ∙ sym (outputs_are s vout fout f.size f.taken);
     }

@@ -2,13 +2,12 @@
 -- Assumes nothing.
 use mathlib.Core.Path.{◌≡◌, refl, sym, ap, ap₂, ◌∙◌}
 use mathlib.Core.List.{List, [], ◌∷◌, ◌++◌, append_assoc, append-nil}
-use Prim.Native.Nat.{ℕ, zero, suc, ◌+◌, ◌-◌, ◌*◌, ◌≤◌, ◌<◌}
+use Prim.Native.Nat.{ℕ, zero, suc, ◌+◌, ◌-◌, ◌*◌, ◌≤◌}
 use native.Mathlib.Omega.{arith}
-use native.Mathlib.Numerals.{add-one}
-use lib.ListN.{length, get_or, take, length-append}
-use lib.Seq.{take-suc}
+use lib.ListN.{length, length-append}
 use Rattle.octets.specs.Read.{between, bytes_at}
 use Rattle.octets.proofs.Laws.{between_none, bytes_between}
+use Rattle.std.specs.List.{flat_map}
 use Rattle.blake2s.specs.Rfc7693.{blake2s_of}
 use Rattle.image.specs.Chunks.{chunk, hash_of, hashes_of, hashes_at}
 use Rattle.image.proofs.Hashes.{hash_length}
@@ -19,12 +18,14 @@ pub joined_append : (a b : List (List ℕ)) → joined (a ++ b) ≡ joined a ++ 
 joined_append [] b = refl
 joined_append (x ∷ a) b = ap (λ (l : List ℕ). x ++ l) (joined_append a b) ∙ sym (append_assoc x (joined a) (joined b))
 
+-- in std's words
+pub joined_flat : (t : List (List ℕ)) → flat_map (λ x. x) t ≡ joined t
+joined_flat [] = refl
+joined_flat (x ∷ t) = ap (λ (l : List ℕ). x ++ l) (joined_flat t)
+
 -- one hash more at the end
 joined_last : (t : List (List ℕ)) (h : List ℕ) → joined (t ++ (h ∷ [])) ≡ joined t ++ h
 joined_last t h = joined_append t (h ∷ []) ∙ ap (λ (l : List ℕ). joined t ++ l) (append-nil h)
-
-pub joined_more : (t : List (List ℕ)) (k : ℕ) → k < length t → joined (take (k + 1) t) ≡ joined (take k t) ++ get_or t k []
-joined_more t k h = rw (add-one k, take-suc t k [] h) (joined_last (take k t) (get_or t k []))
 
 -- the hashes of n chunks take 32 bytes each
 pub length_hashes : (n first : ℕ) (code : List ℕ) → length (joined (hashes_of blake2s_of n first code)) ≡ 32 * n

@@ -1,5 +1,6 @@
 -- The laws that the proofs of writer cite.
 pub mod Fields
+pub mod Chain
 pub mod Taken
 pub mod Joined
 pub mod Standing

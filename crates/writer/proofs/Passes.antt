@@ -13,13 +13,12 @@ use Rattle.header.specs.Layout.{vendor_len, string_len_at, string_len, picture_s
 use Rattle.header.specs.Steps.{policy_impossible, vendor_magic_missing, shorter_than_any_header, vendor_len_impossible, vendor_header_cut, vendor_keys_impossible, string_leaves_no_room, vendor_bytes_not_zero, vendor_expired, vendor_mask_wrong, firmware_header_cut, firmware_magic_missing, firmware_len_wrong, first_chunk_has_no_room, code_len_wrong, firmware_bytes_not_zero, firmware_expired, firmware_mask_wrong}
 use Rattle.header.specs.Table.{first_failing, vendor_shape, vendor_policy, firmware_shape, firmware_policy, header_rows}
 use Rattle.header.specs.declared.Inputs.{Inputs}
-use Rattle.header.specs.declared.Outcome.TheVariants.{Pass}
+use Rattle.std.specs.Prelude.{Ok}
 use Rattle.header.proofs.Rows.{passes_here, ends, stage_passes}
 use Rattle.blake2s.specs.Rfc7693.{blake2s_of}
 use Rattle.image.specs.Chunks.{hashes_of, hashes_at, hash_table, code_of}
 use Rattle.image.specs.Answer.{image_of}
 use Rattle.image.specs.Check.{check_file}
-use Rattle.image.specs.declared.Answer.TheVariants.{Accepted}
 use Rattle.image.proofs.Facts.{sound_file_accepted, code_is_rest}
 use Rattle.writer.specs.Firmware.{firmware_head}
 use Rattle.writer.specs.Parts.{Parts, Sized, WellFormed}
@@ -53,7 +52,7 @@ module _ {p : Parts} (s : Sized p) {vroom froom : ℕ} (t : Taken p vroom froom)
   magic_there = rw vendor_reads.magic
 
   -- S3 to S8
-  pub vendor_shape_passes : first_failing (vendor_shape (file_of p)) ≡ Pass
+  pub vendor_shape_passes : first_failing (vendor_shape (file_of p)) ≡ Ok tt
   unfolding vendor_shape shorter_than_any_header vendor_len_impossible vendor_header_cut vendor_keys_impossible string_leaves_no_room vendor_bytes_not_zero
   vendor_shape_passes =
       let r = vendor_reads in
@@ -67,7 +66,7 @@ module _ {p : Parts} (s : Sized p) {vroom froom : ℕ} (t : Taken p vroom froom)
       (passes_here _ _ (rw (string_reads, r.count, r.reserved, r.padding)) ends))))))
 
   -- S12 to S17
-  pub firmware_shape_passes : first_failing (firmware_shape (file_of p)) ≡ Pass
+  pub firmware_shape_passes : first_failing (firmware_shape (file_of p)) ≡ Ok tt
   unfolding firmware_shape firmware_header_cut firmware_magic_missing firmware_len_wrong first_chunk_has_no_room code_len_wrong firmware_bytes_not_zero
   firmware_shape_passes =
       let v = vendor_reads.len in
@@ -111,7 +110,7 @@ module _ {p : Parts} (s : Sized p) {vroom froom : ℕ} (t : Taken p vroom froom)
 
 module _ {p : Parts} {given : Inputs} (w : WellFormed p given) {vroom froom : ℕ} (t : Taken p vroom froom) (yesVendor : given.vendor ≡ true) (yesFirmware : given.firmware ≡ true) where
   -- S9 to S11
-  vendor_policy_passes : first_failing (vendor_policy (file_of p) given) ≡ Pass
+  vendor_policy_passes : first_failing (vendor_policy (file_of p) given) ≡ Ok tt
   unfolding vendor_policy vendor_expired vendor_mask_wrong
   vendor_policy_passes =
       let r = vendor_reads w.sized t in
@@ -121,7 +120,7 @@ module _ {p : Parts} {given : Inputs} (w : WellFormed p given) {vroom froom : �
       (passes_here _ _ (ap not yesVendor) ends)))
 
   -- S18 to S20
-  firmware_policy_passes : first_failing (firmware_policy (file_of p) given) ≡ Pass
+  firmware_policy_passes : first_failing (firmware_policy (file_of p) given) ≡ Ok tt
   unfolding firmware_policy firmware_expired firmware_mask_wrong
   firmware_policy_passes =
       let v = vendor_reads w.sized t in
@@ -132,7 +131,7 @@ module _ {p : Parts} {given : Inputs} (w : WellFormed p given) {vroom froom : �
       (passes_here _ _ (ap not yesFirmware) ends)))
 
   -- S1 to S20
-  headers_pass : first_failing (header_rows (vendor_magic_missing (file_of p)) (file_of p) given) ≡ Pass
+  headers_pass : first_failing (header_rows (vendor_magic_missing (file_of p)) (file_of p) given) ≡ Ok tt
   unfolding header_rows policy_impossible
   headers_pass =
       sym
@@ -142,8 +141,8 @@ module _ {p : Parts} {given : Inputs} (w : WellFormed p given) {vroom froom : �
       (stage_passes _ _ (sym vendor_policy_passes) refl
       (stage_passes _ _ (sym (firmware_shape_passes w.sized t)) refl (sym firmware_policy_passes))))))
 
-  file_passes : check_file (file_of p) given ≡ Accepted (record { v = size_of p; codelen = length p.code; version = p.firmware.version; fix = p.firmware.fix })
-  file_passes = let s = w.sized in sound_file_accepted (file_of p) given headers_pass (whole s t) (hashes_right s t) ∙ ap Accepted (told s t)
+  file_passes : check_file (file_of p) given ≡ Ok (record { v = size_of p; codelen = length p.code; version = p.firmware.version; fix = p.firmware.fix })
+  file_passes = let s = w.sized in sound_file_accepted (file_of p) given headers_pass (whole s t) (hashes_right s t) ∙ ap Ok (told s t)
 
 -- the first half of the agreement
 pub written_images_pass : WrittenImagesPass

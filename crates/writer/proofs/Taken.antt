@@ -1,7 +1,7 @@
 -- What a writer knows where no row refuses, and what it answers and leaves by the outcome of its rows.
 -- Assumes nothing.
 use mathlib.Core.Path.{◌≡◌, refl, sym, ap, ◌∙◌}
-use mathlib.Core.List.{List}
+use mathlib.Core.List.{List, [], ◌∷◌}
 use mathlib.Core.Bool.{Bool, false, not, ◌||◌}
 use Prim.Native.Nat.{ℕ, ◌+◌, ◌*◌, ◌≤◌}
 use native.Mathlib.Omega.{arith}
@@ -9,6 +9,9 @@ use lib.ListN.{length, take, drop, length-append}
 use lib.Seq.{take_at}
 use lib.Dec.{ltb, eqb}
 use borrow.Author.Tests.{ltb-false, eqb-true, not-false}
+use Rattle.std.specs.Prelude.{Result, Ok, Err, is_ok}
+use Rattle.std.specs.Result.{IsErr, IsErrAnd}
+use Rattle.std.proofs.lemmas.Bool.{false≢true}
 use Rattle.octets.specs.Put.{Put}
 use Rattle.octets.specs.Rounding.{round_up}
 use Rattle.octets.proofs.Rounding.{rounds_up}
@@ -16,17 +19,19 @@ use Rattle.octets.proofs.Splice.{splice_start, length_zeros}
 use Rattle.octets.proofs.Laws.{or_left, or_right}
 use Rattle.header.specs.Layout.{picture_start}
 use Rattle.header.specs.Steps.{keys_impossible}
-use Rattle.header.specs.Table.{first_failing}
+use Rattle.header.specs.Table.{row, first_failing}
 use Rattle.header.specs.declared.Refusal.{Refusal}
-use Rattle.header.specs.declared.Outcome.{Outcome}
-use Rattle.header.specs.declared.Outcome.TheVariants.{Pass, Refused}
+use Rattle.header.specs.Outcome.{Outcome}
 use Rattle.header.proofs.Rows.{pass_head, pass_tail}
 use Rattle.header.proofs.Facts.{LengthPossible, length_possible, CodeLenPossible, code_len_possible}
-use Rattle.writer.specs.Writers.{answered, output}
+use Rattle.writer.specs.Writers.{Written, answered, output}
 use Rattle.writer.specs.Vendor.{vendor_size, vendor_head, vendor_front, vendor_refusals}
 use Rattle.writer.specs.Firmware.{firmware_refusals}
 use Rattle.writer.specs.declared.Vendor.{Vendor}
-use Rattle.writer.specs.declared.Written.TheVariants.{Header, Not}
+
+-- a step passes where its test does not fail
+pub passed : {x : Outcome} {f : Bool} (r : Refusal) → x ≡ first_failing (row f r ∷ []) → x ≡ Ok tt → f ≡ false
+passed r asked h = pass_head _ r [] (sym asked ∙ h)
 
 -- ---- the vendor writer
 
@@ -51,9 +56,11 @@ pub record VendorFits (f : Vendor) (k s p room : ℕ) : Type 0 where
   pub size : vendor_size f.n s p ≤ 65536
   pub holds : vendor_size f.n s p ≤ room
 
-pub vendor_fits : (f : Vendor) (k s p room : ℕ) → first_failing (vendor_refusals f k s p room) ≡ Pass → VendorFits f k s p room
+-- x is what the rows' function returned
+pub vendor_fits : {x : Outcome} {f : Vendor} {k s p room : ℕ} → x ≡ first_failing (vendor_refusals f k s p room) → x ≡ Ok tt → VendorFits f k s p room
 unfolding vendor_refusals
-vendor_fits f k s p room h4 =
+vendor_fits {f = f} {k = k} {s = s} {p = p} {room = room} asked h =
+    let h4 = sym asked ∙ h in
     let h20 = pass_tail _ _ _ h4 in
     let h3 = pass_tail _ _ _ h20 in
     let h21 = pass_tail _ _ _ h3 in
@@ -79,9 +86,10 @@ pub record FirmwareFits (v codelen room : ℕ) : Type 0 where
   pub code : CodeLenPossible v codelen
   pub holds : 1024 ≤ room
 
-pub firmware_fits : (v codelen room : ℕ) → first_failing (firmware_refusals v codelen room) ≡ Pass → FirmwareFits v codelen room
+pub firmware_fits : {x : Outcome} {v codelen room : ℕ} → x ≡ first_failing (firmware_refusals v codelen room) → x ≡ Ok tt → FirmwareFits v codelen room
 unfolding firmware_refusals
-firmware_fits v codelen room h3 =
+firmware_fits {v = v} {codelen = codelen} {room = room} asked h =
+    let h3 = sym asked ∙ h in
     let h12 = pass_tail _ _ _ h3 in
     let h21 = pass_tail _ _ _ h12 in
     let large = ltb-false room _ (pass_head _ _ _ h21) in
@@ -93,17 +101,35 @@ firmware_fits v codelen room h3 =
 
 -- ---- both writers: x is what the rows' function returned, o the outcome of the rows
 
-pub refused : {x o : Outcome} {r : Refusal} (v : ℕ) (h d : List ℕ) → x ≡ o → x ≡ Refused r → (Not r.number ≡ answered o v) × (d ≡ output o h d)
-refused v h d e f = (sym (rw (← e, f)), sym (rw (← e, f)))
+-- m is what `map_err` makes of x: a success where x is one, and a refusal where x is one
+pub passes : {x : Outcome} {m : Result Unit ℕ} → is_ok m ≡ is_ok x → m ≡ Ok tt → x ≡ Ok tt
+passes {x = Ok u} same h = refl
+passes {x = Err r} same h = cc
 
-pub wrote : {x o : Outcome} {v w b : ℕ} {h d q : List ℕ} → x ≡ o → x ≡ Pass → w ≡ v → Put 0 h d b q → (Header w ≡ answered o v) × (q ≡ output o h d)
-wrote {h = h} {d = d} e f l p = (rw (← e, f) (ap Header l), rw (← e, f) (p.is ∙ splice_start h d))
+pub fails : {C : Type 0} {n : ℕ} (x : Outcome) {m : Result Unit ℕ} → is_ok m ≡ is_ok x → m ≡ Err n → ((r : Refusal) → x ≡ Err r → C) → C
+fails (Ok u) same h f = absurd (false≢true (sym (ap is_ok h) ∙ same))
+fails (Err r) same h f = f r refl
+
+-- what a refused call answers, by the number n that is handed on, and leaves
+pub refused : {x o : Outcome} {a : Written} {r : Refusal} {n : ℕ} (v : ℕ) → x ≡ o → x ≡ Err r → n ≡ r.number → IsErr a × IsErrAnd a (λ k. k ≡ n) → a ≡ answered o v
+refused {a = Ok w} v e f g h = absurd h.1
+refused {a = Err k} v e f g h = rw (← e, f) (ap Err (h.1 ∙ g))
+
+pub untouched : {x o : Outcome} {r : Refusal} (h d : List ℕ) → x ≡ o → x ≡ Err r → d ≡ output o h d
+untouched h d e f = sym (rw (← e, f))
+
+-- what a successful one does, of which q is left by the cursor that leaves r
+pub wrote : {x o : Outcome} {v w : ℕ} → x ≡ o → x ≡ Ok tt → w ≡ v → Ok w ≡ answered o v
+wrote e f l = rw (← e, f) (ap Ok l)
+
+pub leaves : {x o : Outcome} {h d q r : List ℕ} {b : ℕ} → x ≡ o → x ≡ Ok tt → q ≡ r → Put 0 h d b r → q ≡ output o h d
+leaves {h = h} {d = d} e f k p = rw (← e, f) (k ∙ p.is ∙ splice_start h d)
 
 -- a success says that the rows pass, and tells the header's length, n
-pub succeeded : (o : Outcome) (n v : ℕ) → answered o n ≡ Header v → (o ≡ Pass) × (v ≡ n)
-succeeded Pass n v h = (refl, cc)
-succeeded (Refused r) n v h = (cc, cc)
+pub succeeded : (o : Outcome) (n v : ℕ) → answered o n ≡ Ok v → (o ≡ Ok tt) × (v ≡ n)
+succeeded (Ok tt) n v h = (refl, cc)
+succeeded (Err r) n v h = (cc, cc)
 
 -- and the header stands at the output's start
-pub left : {o : Outcome} (h out : List ℕ) (n : ℕ) → o ≡ Pass → length h ≡ n → take n (output o h out) ≡ h
+pub left : {o : Outcome} (h out : List ℕ) (n : ℕ) → o ≡ Ok tt → length h ≡ n → take n (output o h out) ≡ h
 left h out n e l = rw e (take_at h (drop (length h) out) n l)

@@ -8,9 +8,8 @@ use Rattle.header.specs.Table.{Row, step, first_failing}
 use Rattle.blake2s.specs.Rfc7693.{blake2s_of}
 use Rattle.image.specs.Chunks.{hashes_of}
 use Rattle.image.specs.declared.Version.{Version}
-use Rattle.writer.specs.Writers.{answered, output}
+use Rattle.writer.specs.Writers.{Written, answered, output}
 use Rattle.writer.specs.declared.Firmware.{Firmware}
-use Rattle.writer.specs.declared.Written.{Written}
 
 -- ---- the fields
 

@@ -1,5 +1,6 @@
 -- What the contracts of writer cite.
 pub mod Writers
+pub mod Cursor
 pub mod Vendor
 pub mod Firmware
 pub mod Parts

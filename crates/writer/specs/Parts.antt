@@ -1,20 +1,18 @@
 -- An image's parts: what the two writers take, the file that they leave of them, and an image taken apart.
 -- Assumes nothing.
-use Rattle.std.specs.Prelude.{ℕ, ◌+◌, ◌-◌, ◌<◌, ◌≡◌, List, ◌++◌, false, length, get_or, take}
+use Rattle.std.specs.Prelude.{ℕ, ◌+◌, ◌-◌, ◌<◌, ◌≡◌, List, ◌++◌, false, length, get_or, take, Ok}
 use Rattle.octets.specs.Read.{between}
 use Rattle.header.specs.Layout.{vendor_len, vendor_expiry, signers_needed, key_count, vtrust, string_len_at, vendor_mask, firmware_expiry, firmware_mask}
 use Rattle.code_header.specs.Tests.{expired, mask_wrong}
 use Rattle.header.specs.Steps.{keys_impossible}
 use Rattle.header.specs.declared.Inputs.{Inputs}
-use Rattle.image.specs.Answer.{version_at}
+use Rattle.image.specs.Answer.{Answer, version_at}
 use Rattle.image.specs.Chunks.{code_of}
 use Rattle.image.specs.Parts.{string_of, picture_of, when_accepted}
-use Rattle.image.specs.declared.Answer.{Answer}
 use Rattle.writer.specs.Vendor.{vendor_answer, vendor_output}
 use Rattle.writer.specs.Firmware.{firmware_answer, firmware_output}
 use Rattle.writer.specs.declared.Vendor.{Vendor}
 use Rattle.writer.specs.declared.Firmware.{Firmware}
-use Rattle.writer.specs.declared.Written.TheVariants.{Header}
 
 -- what the two writers take
 pub record Parts : Type 0 where
@@ -51,8 +49,8 @@ pub record WellFormed (p : Parts) (given : Inputs) : Type 0 where
 -- a file that the two writers left: both calls answer their length, and the firmware writer was given the vendor header's own v. The file is
 -- the first v bytes of the one output, the first 1,024 of the other, the same code, and nothing after
 pub record WrittenFile (p : Parts) (v : ℕ) (vout fout file : List ℕ) : Type 0 where
-  pub vendor : vendor_answer p.vendor p.keys p.string p.picture vout ≡ Header v
-  pub firmware : firmware_answer v p.code fout ≡ Header 1024
+  pub vendor : vendor_answer p.vendor p.keys p.string p.picture vout ≡ Ok v
+  pub firmware : firmware_answer v p.code fout ≡ Ok 1024
   pub joined : file
       ≡ take v (vendor_output p.vendor p.keys p.string p.picture p.vsig vout)
       ++ (take 1024 (firmware_output v p.firmware p.code p.sig fout)

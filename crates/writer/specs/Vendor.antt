@@ -6,9 +6,8 @@ use Rattle.octets.specs.Rounding.{round_up}
 use Rattle.header.specs.Layout.{TRZV, string_end, picture_start, mask_at}
 use Rattle.header.specs.Steps.{keys_impossible}
 use Rattle.header.specs.Table.{Row, step, first_failing}
-use Rattle.writer.specs.Writers.{answered, output}
+use Rattle.writer.specs.Writers.{Written, answered, output}
 use Rattle.writer.specs.declared.Vendor.{Vendor}
-use Rattle.writer.specs.declared.Written.{Written}
 
 -- v: the least multiple of 512 that holds a string of s bytes behind n keys, and a picture of p bytes
 abbrev pub vendor_size : ℕ → ℕ → ℕ → ℕ

@@ -1,27 +1,28 @@
 -- What both writers answer and leave in the output.
 -- Assumes nothing.
-use Rattle.std.specs.Prelude.{ℕ, List, [], ◌∷◌, ◌++◌, length, drop}
-use Rattle.header.specs.declared.Outcome.{Outcome}
-use Rattle.header.specs.declared.Outcome.TheVariants.{Pass, Refused}
-use Rattle.writer.specs.declared.Written.{Written}
-use Rattle.writer.specs.declared.Written.TheVariants.{Header, Not}
+use Rattle.std.specs.Prelude.{ℕ, List, [], ◌∷◌, ◌++◌, length, drop, Result, Ok, Err}
+use Rattle.header.specs.Outcome.{Outcome}
+
+-- the header's length, or the number of a refusal
+abbrev pub Written : Type 0
+Written = Result ℕ ℕ
 
 -- the number of every answer (specification, 14)
 abbrev pub number_of : Written → ℕ
-number_of (Header len) = 0
-number_of (Not number) = number
+number_of (Ok len) = 0
+number_of (Err number) = number
 
 -- every value: the number, and of a success the header's length
 abbrev pub told : Written → List ℕ
-told (Header len) = 0 ∷ len ∷ []
-told (Not number) = number ∷ []
+told (Ok len) = 0 ∷ len ∷ []
+told (Err number) = number ∷ []
 
 -- the header's length, or the number of the first failing row
 abbrev pub answered : Outcome → ℕ → Written
-answered Pass len = Header len
-answered (Refused r) len = Not r.number
+answered (Ok _) len = Ok len
+answered (Err r) len = Err r.number
 
 -- the output: the header and what stood behind it, or all as it was
 abbrev pub output : Outcome → List ℕ → List ℕ → List ℕ
-output Pass header out = header ++ drop (length header) out
-output (Refused r) header out = out
+output (Ok _) header out = header ++ drop (length header) out
+output (Err r) header out = out

@@ -5,30 +5,31 @@
 // against its limit before it is added to another.
 #![tactic(auto)]
 
+mod cursor;
 pub mod theorems;
 
 ghost use Rattle.std.specs.Prelude.{◌≡◌, ◌+◌, ◌≤◌, ◌*◌, length, ltb};
-ghost use Rattle.octets.specs.Put.{Put};
 ghost use Rattle.octets.specs.Rounding.{round_up};
 ghost use Rattle.header.specs.Layout.{picture_start};
 ghost use Rattle.header.specs.Table.{first_failing};
 ghost use Rattle.blake2s.specs.Rfc7693.{blake2s_of};
 ghost use Rattle.image.specs.Chunks.{hashes_of};
+ghost use Rattle.writer.specs.Cursor.{Wrote};
 ghost use Rattle.writer.specs.Writers.{told};
 ghost use Rattle.writer.specs.Vendor.{vendor_head, vendor_front, vendor_back, vendor_refusals, vendor_answer, vendor_output};
-ghost use Rattle.writer.specs.Firmware.{joined, firmware_head, firmware_fields, firmware_refusals, firmware_answer, firmware_output};
+ghost use Rattle.writer.specs.Firmware.{quad, firmware_head, firmware_fields, firmware_refusals, firmware_answer, firmware_output};
 
+use cursor::Cursor;
 use header::Outcome;
 use header::layout::{first_room, picture_start};
 use header::steps::{code_len_impossible, keys_impossible, length_impossible};
-use header::table::refuse;
+use header::table::step;
 use image::Version;
-use image::chunks::{Hash, hash_of, room_of};
+use image::chunks::{Blake2s, hash_of, room_of};
 use octets::part;
-use octets::put::{byte0, byte1, byte2, byte3, put_byte, put_bytes, put_zeros};
 
 // The numbers of a vendor header: m of n is what its keys ask of a firmware header.
-#[derive(Clone, Copy)]
+#[derive(Clone, Copy, PartialEq, Eq, Debug)]
 pub struct Vendor {
     pub expiry: u32,
     pub major: u8,
@@ -40,7 +41,7 @@ pub struct Vendor {
 }
 
 // The numbers of a firmware header.
-#[derive(Clone, Copy)]
+#[derive(Clone, Copy, PartialEq, Eq, Debug)]
 pub struct Firmware {
     pub expiry: u32,
     pub version: Version,
@@ -48,87 +49,51 @@ pub struct Firmware {
     pub mask: u8,
 }
 
-// A writer's answer: the header's length, or the number with which it refused.
-#[derive(Clone, Copy)]
-pub enum Written {
-    Header(usize),
-    Not(u32),
-}
+// A writer's answer: the header's length, or the number with which it refused. The refusal is that
+// number alone: `abi::headers::tell` tells any number, and a narrower type would ask more of it.
+pub type Written = Result<usize, u32>;
 
 // Offsets 0 to 31 of a vendor header of v bytes.
-fn vendor_head(f: Vendor, v: u32) -> [u8; 32]
-    ensures { result ≡ vendor_head f v }
+fn vendor_head(cursor: &mut Cursor<'_>, f: Vendor, v: u32)
+    requires { cursor.old.at + 32 ≤ length cursor.old.out.now }
+    ensures wrote { Wrote (vendor_head f v) cursor.old cursor.new }
+    ensures place { cursor.new.at ≡ cursor.old.at + 32 }
 {
-    let e = f.expiry;
-    let t = f.trust as u32;
-    [
-        b'T',
-        b'R',
-        b'Z',
-        b'V',
-        byte0(v),
-        byte1(v),
-        byte2(v),
-        byte3(v),
-        byte0(e),
-        byte1(e),
-        byte2(e),
-        byte3(e),
-        f.major,
-        f.minor,
-        f.m,
-        f.n,
-        byte0(t),
-        byte1(t),
-        0,
-        0,
-        0,
-        0,
-        0,
-        0,
-        0,
-        0,
-        0,
-        0,
-        0,
-        0,
-        0,
-        0,
-    ]
+    cursor.bytes(b"TRZV");
+    cursor.bytes(&v.to_le_bytes());
+    cursor.bytes(&f.expiry.to_le_bytes());
+    cursor.bytes(&[f.major, f.minor, f.m, f.n]);
+    cursor.bytes(&f.trust.to_le_bytes());
+    cursor.zeros(14);
 }
 
 // The fields up to the picture.
-fn vendor_front(out: &mut [u8], v: usize, f: Vendor, keys: &[u8], string: &[u8]) -> usize
-    requires { (picture_start f.n (length string.now) ≤ length out.old) × (length keys.now ≡ 32 * f.n) × (length string.now ≤ 255) × (v ≤ 65536) }
-    ensures { Put 0 (vendor_front v f keys.now string.now) out.old result out.new }
+fn vendor_front(cursor: &mut Cursor<'_>, v: u32, f: Vendor, keys: &[u8], string: &[u8])
+    requires start { cursor.old.at ≡ 0 }
+    requires room { picture_start f.n (length string.now) ≤ length cursor.old.out.now }
+    requires keys { length keys.now ≡ 32 * f.n }
+    requires string { length string.now ≤ 255 }
+    ensures wrote { Wrote (vendor_front v f keys.now string.now) cursor.old cursor.new }
+    ensures place { cursor.new.at ≡ picture_start f.n (length string.now) }
 {
     let s = string.len() as u8;
-    let n = f.n;
-    let start = picture_start(n, s);
-    let head = vendor_head(f, v as u32);
-    let a = put_bytes(out, 0, &head);
-    let b = put_bytes(out, a, keys);
-    let c = put_byte(out, b, s);
-    let d = put_bytes(out, c, string);
-    put_zeros(out, d, start - d)
+    vendor_head(cursor, f, v);
+    cursor.bytes(keys);
+    cursor.byte(s);
+    cursor.bytes(string);
+    cursor.zeros(picture_start(f.n, s) - cursor.at);
 }
 
 // The picture and what stands behind it.
-fn vendor_back(
-    out: &mut [u8],
-    v: usize,
-    start: usize,
-    picture: &[u8],
-    mask: u8,
-    sig: &[u8],
-) -> usize
-    requires { (v ≤ length out.old) × (start + length picture.now + 65 ≤ v) × (length sig.now ≡ 64) }
-    ensures { Put start (vendor_back v start picture.now mask sig.now) out.old result out.new }
+fn vendor_back(cursor: &mut Cursor<'_>, v: usize, picture: &[u8], mask: u8, sig: &[u8; 64])
+    requires room { v ≤ length cursor.old.out.now }
+    requires picture { cursor.old.at + length picture.now + 65 ≤ v }
+    ensures { Wrote (vendor_back v cursor.old.at picture.now mask sig.now) cursor.old cursor.new }
 {
-    let a = put_bytes(out, start, picture);
-    let b = put_zeros(out, a, v - 65 - a);
-    let c = put_byte(out, b, mask);
-    put_bytes(out, c, sig)
+    cursor.bytes(picture);
+    cursor.zeros(v - 65 - cursor.at);
+    cursor.byte(mask);
+    cursor.bytes(sig);
 }
 
 // The length of a vendor header whose picture starts at an offset and has so many bytes: the least
@@ -137,7 +102,7 @@ fn size_of(start: usize, picture: usize) -> usize
     requires { (start ≤ 65536) × (picture ≤ 65536) }
     ensures { result ≡ round_up 512 (start + picture + 65) }
 {
-    (start + picture + 65 + (512 - 1)) / 512 * 512
+    (start + picture + 65).next_multiple_of(512)
 }
 
 // Whether a vendor header would be longer than 65,536 bytes. The picture may have any length.
@@ -145,31 +110,18 @@ fn too_long(start: usize, picture: usize) -> bool
     requires { start ≤ 65536 }
     ensures { result ≡ ltb 65536 (round_up 512 (start + picture + 65)) }
 {
-    if 65536 < picture {
-        return true;
-    }
-    65536 < size_of(start, picture)
+    65536 < picture || 65536 < size_of(start, picture)
 }
 
 // Why the vendor writer refuses, by the lengths of the keys, the string, the picture and the output.
 fn vendor_refusals(f: Vendor, keys: usize, string: usize, picture: usize, room: usize) -> Outcome
     ensures { result ≡ first_failing (vendor_refusals f keys string picture room) }
 {
-    let n = f.n;
-    if keys_impossible(f.m as u32, n as u32) {
-        return refuse(4, 0);
-    }
-    if (keys != 32 * (n as usize)) | (255 < string) {
-        return refuse(20, 0);
-    }
-    let start = picture_start(n, string as u8);
-    if too_long(start, picture) {
-        return refuse(3, 0);
-    }
-    if room < size_of(start, picture) {
-        return refuse(21, 0);
-    }
-    Outcome::Pass
+    step(keys_impossible(u32::from(f.m), u32::from(f.n)), 4, 0)?;
+    step((keys != 32 * usize::from(f.n)) | (255 < string), 20, 0)?;
+    let start = picture_start(f.n, string as u8);
+    step(too_long(start, picture), 3, 0)?;
+    step(room < size_of(start, picture), 21, 0)
 }
 
 // The vendor header, written to the start of the output.
@@ -185,16 +137,13 @@ pub fn write_vendor(
         × (out.new ≡ vendor_output f keys.now string.now picture.now sig.now out.old) }
     ensures told { told result ≡ told (vendor_answer f keys.now string.now picture.now out.old) }
 {
-    let refusal = vendor_refusals(f, keys.len(), string.len(), picture.len(), out.len());
-    if let Outcome::Refused(r) = refusal {
-        return Written::Not(r.number);
-    }
-    let n = f.n;
-    let start = picture_start(n, string.len() as u8);
+    vendor_refusals(f, keys.len(), string.len(), picture.len(), out.len()).map_err(|r| r.number)?;
+    let start = picture_start(f.n, string.len() as u8);
     let v = size_of(start, picture.len());
-    let at = vendor_front(out, v, f, keys, string);
-    vendor_back(out, v, at, picture, f.mask, sig);
-    Written::Header(v)
+    let mut cursor = Cursor { out, at: 0 };
+    vendor_front(&mut cursor, v as u32, f, keys, string);
+    vendor_back(&mut cursor, v, picture, f.mask, sig);
+    Ok(v)
 }
 
 // The hashes of the sixteen chunks of the code, the first of which has room for `first` bytes.
@@ -202,117 +151,63 @@ fn hashes_of(first: usize, code: &[u8]) -> [[u8; 32]; 16]
     requires { first ≤ 131072 }
     ensures { result ≡ hashes_of blake2s_of 16 first code.now }
 {
-    let mut t = [[0u8; 32]; 16];
-    let mut at: usize = 0;
-    let mut k: usize = 0;
-    while k < 16 {
+    let mut t = [[0; 32]; 16];
+    let mut at = 0;
+    for k in 0..16 {
         let next = at + room_of(first, k);
-        let h = hash_of(Hash::Blake2s, part(code, at, next));
-        t[k] = h;
+        t[k] = hash_of::<Blake2s>(part(code, at, next));
         at = next;
-        k += 1;
     }
     t
 }
 
+// The four bytes of a version.
+fn quad(x: Version) -> [u8; 4]
+    ensures { result ≡ quad x }
+{
+    [x.major, x.minor, x.patch, x.build]
+}
+
 // Offsets 0 to 31 of a firmware header.
-fn firmware_head(f: Firmware, codelen: u32) -> [u8; 32]
-    ensures { result ≡ firmware_head f codelen }
+fn firmware_head(cursor: &mut Cursor<'_>, f: Firmware, codelen: u32)
+    requires { cursor.old.at + 32 ≤ length cursor.old.out.now }
+    ensures wrote { Wrote (firmware_head f codelen) cursor.old cursor.new }
+    ensures place { cursor.new.at ≡ cursor.old.at + 32 }
 {
-    let e = f.expiry;
-    let c = codelen;
-    let v = f.version;
-    let x = f.fix;
-    [
-        b'T',
-        b'R',
-        b'Z',
-        b'F',
-        0,
-        4,
-        0,
-        0,
-        byte0(e),
-        byte1(e),
-        byte2(e),
-        byte3(e),
-        byte0(c),
-        byte1(c),
-        byte2(c),
-        byte3(c),
-        v.major,
-        v.minor,
-        v.patch,
-        v.build,
-        x.major,
-        x.minor,
-        x.patch,
-        x.build,
-        0,
-        0,
-        0,
-        0,
-        0,
-        0,
-        0,
-        0,
-    ]
+    cursor.bytes(b"TRZF");
+    cursor.bytes(&1024u32.to_le_bytes());
+    cursor.bytes(&f.expiry.to_le_bytes());
+    cursor.bytes(&codelen.to_le_bytes());
+    cursor.bytes(&quad(f.version));
+    cursor.bytes(&quad(f.fix));
+    cursor.zeros(8);
 }
 
-fn put_hash(out: &mut [u8], at: usize, h: [u8; 32]) -> usize
-    requires { at + 32 ≤ length out.old }
-    ensures { (result ≡ at + 32) × Put at h out.old result out.new }
-{
-    put_bytes(out, at, &h)
-}
-
-// The table of hashes, one behind the other.
-fn put_hashes(out: &mut [u8], from: usize, table: [[u8; 32]; 16]) -> usize
-    requires { from + 512 ≤ length out.old }
-    ensures { (result ≡ from + 512) × Put from (joined table) out.old result out.new }
-{
-    let mut at = from;
-    let mut i: usize = 0;
-    while i < 16 {
-        let h = table[i];
-        at = put_hash(out, at, h);
-        i += 1;
-    }
-    at
-}
-
+// The fields, with the table of hashes one behind the other.
 fn firmware_fields(
-    out: &mut [u8],
+    cursor: &mut Cursor<'_>,
     f: Firmware,
     codelen: u32,
     table: [[u8; 32]; 16],
-    sig: &[u8],
-) -> usize
-    requires { (1024 ≤ length out.old) × (length sig.now ≡ 64) }
-    ensures { Put 0 (firmware_fields f codelen table sig.now) out.old result out.new }
+    sig: &[u8; 64],
+)
+    requires { cursor.old.at + 1024 ≤ length cursor.old.out.now }
+    ensures { Wrote (firmware_fields f codelen table sig.now) cursor.old cursor.new }
 {
-    let head = firmware_head(f, codelen);
-    let a = put_bytes(out, 0, &head);
-    let b = put_hashes(out, a, table);
-    let c = put_zeros(out, b, 415);
-    let d = put_byte(out, c, f.mask);
-    put_bytes(out, d, sig)
+    firmware_head(cursor, f, codelen);
+    cursor.bytes(table.as_flattened());
+    cursor.zeros(415);
+    cursor.byte(f.mask);
+    cursor.bytes(sig);
 }
 
 // Why the firmware writer refuses, by the lengths of the code and the output.
 fn firmware_refusals(v: u32, codelen: usize, room: usize) -> Outcome
     ensures { result ≡ first_failing (firmware_refusals v codelen room) }
 {
-    if length_impossible(v) {
-        return refuse(3, 0);
-    }
-    if code_len_impossible(v as usize, codelen) {
-        return refuse(12, 0);
-    }
-    if room < 1024 {
-        return refuse(21, 0);
-    }
-    Outcome::Pass
+    step(length_impossible(v), 3, 0)?;
+    step(code_len_impossible(v as usize, codelen), 12, 0)?;
+    step(room < 1024, 21, 0)
 }
 
 // The firmware header, written to the start of the output, for code that stands behind a vendor
@@ -322,12 +217,10 @@ pub fn write_firmware(v: u32, f: Firmware, code: &[u8], sig: &[u8; 64], out: &mu
         × (out.new ≡ firmware_output v f code.now sig.now out.old) }
     ensures told { told result ≡ told (firmware_answer v code.now out.old) }
 {
-    let refusal = firmware_refusals(v, code.len(), out.len());
-    if let Outcome::Refused(r) = refusal {
-        return Written::Not(r.number);
-    }
+    firmware_refusals(v, code.len(), out.len()).map_err(|r| r.number)?;
     let table = hashes_of(first_room(v as usize), code);
     let codelen = code.len() as u32;
-    firmware_fields(out, f, codelen, table, sig);
-    Written::Header(1024)
+    let mut cursor = Cursor { out, at: 0 };
+    firmware_fields(&mut cursor, f, codelen, table, sig);
+    Ok(1024)
 }

@@ -3,4 +3,4 @@ use Rattle.blake2s.proofs.Laws.{plain_hashed}
 use Rattle.blake2s.proofs.blake2s.Goals as goal
 
 pub returns : goal.returns
-returns c = plain_hashed _ _ c.initial.ensures (rw c.block_count.ensures at c.absorb-h.ensures) c.serialised.ensures
+returns c = plain_hashed _ _ c.digest.ensures

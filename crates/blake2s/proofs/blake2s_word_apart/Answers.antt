@@ -4,5 +4,4 @@ use Rattle.blake2s.proofs.Laws.{message_hashed}
 use Rattle.blake2s.proofs.blake2s_word_apart.Goals as goal
 
 pub returns : goal.returns
-returns c = message_hashed c.args.first _ _ c.after_word.ensures.1 (omega arith) (omega arith) c.initial.ensures (λ h. c.after_word.ensures.0)
-    (rw c.block_count.ensures at c.absorb-h.ensures) c.serialised.ensures
+returns c = message_hashed c.args.first _ _ c.after_word.ensures.1 (omega arith) (omega arith) (λ h. c.after_word.ensures.0) c.digest.ensures

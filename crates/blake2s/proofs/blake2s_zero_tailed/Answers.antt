@@ -4,5 +4,4 @@ use Rattle.blake2s.proofs.Laws.{message_hashed}
 use Rattle.blake2s.proofs.blake2s_zero_tailed.Goals as goal
 
 pub returns : goal.returns
-returns c = message_hashed [] _ _ refl (omega arith) (omega arith) c.initial.ensures (λ h. absurd (omega arith))
-    (rw c.block_count.ensures at c.absorb-h.ensures) c.serialised.ensures
+returns c = message_hashed [] _ _ refl (omega arith) (omega arith) (λ h. absurd (omega arith)) c.digest.ensures

@@ -1,28 +1,47 @@
 -- `loader::area_rows` meets its contract: two rows and then four groups, each answered by its promise, in the table's order.
-use Rattle.header.proofs.Rows.{rows}
 use Rattle.loader.specs.Check.{area_rows}
+use Rattle.header.proofs.Rows.{handed_on, row_fails, row_passes, stage_fails, stage_passes}
 use Rattle.loader.proofs.area_rows.Goals as goal
 
-pub returns-then-magic_missing : goal.returns-then-magic_missing
+pub returns-in_err-magic_row : goal.returns-in_err-magic_row
 unfolding area_rows
-returns-then-magic_missing c = search rows depth 9
+returns-in_err-magic_row c = stage_fails _ _ c.magic_row.ensures c.in_err-magic_row.was (handed_on c.from_residual.ensures)
 
-pub returns-then-policy_impossible : goal.returns-then-policy_impossible
+pub returns-in_err-step : goal.returns-in_err-step
 unfolding area_rows
-returns-then-policy_impossible c = search rows depth 9
+returns-in_err-step c =
+    stage_passes _ _ c.magic_row.ensures c.in_ok-magic_row.was
+    (row_fails _ _ c.step.ensures c.policy_impossible.ensures c.in_err-step.was (handed_on c.from_residual-in_err-step.ensures))
 
-pub returns-in-Refused : goal.returns-in-Refused
+pub returns-in_err-shape_rows : goal.returns-in_err-shape_rows
 unfolding area_rows
-returns-in-Refused c = search rows depth 9
+returns-in_err-shape_rows c =
+    stage_passes _ _ c.magic_row.ensures c.in_ok-magic_row.was
+    (row_passes _ _ c.step.ensures c.policy_impossible.ensures c.in_ok-step.was
+    (stage_fails _ _ c.shape_rows.ensures c.in_err-shape_rows.was (handed_on c.from_residual-in_err-shape_rows.ensures)))
 
-pub returns-in-Refused-policy : goal.returns-in-Refused-policy
+pub returns-in_err-policy_rows : goal.returns-in_err-policy_rows
 unfolding area_rows
-returns-in-Refused-policy c = search rows depth 9
+returns-in_err-policy_rows c =
+    stage_passes _ _ c.magic_row.ensures c.in_ok-magic_row.was
+    (row_passes _ _ c.step.ensures c.policy_impossible.ensures c.in_ok-step.was
+    (stage_passes _ _ c.shape_rows.ensures c.in_ok-shape_rows.was
+    (stage_fails _ _ c.policy_rows.ensures c.in_err-policy_rows.was (handed_on c.from_residual-in_err-policy_rows.ensures))))
 
-pub returns-in-Refused-extent : goal.returns-in-Refused-extent
+pub returns-in_err-extent_rows : goal.returns-in_err-extent_rows
 unfolding area_rows
-returns-in-Refused-extent c = search rows depth 9
+returns-in_err-extent_rows c =
+    stage_passes _ _ c.magic_row.ensures c.in_ok-magic_row.was
+    (row_passes _ _ c.step.ensures c.policy_impossible.ensures c.in_ok-step.was
+    (stage_passes _ _ c.shape_rows.ensures c.in_ok-shape_rows.was
+    (stage_passes _ _ c.policy_rows.ensures c.in_ok-policy_rows.was
+    (stage_fails _ _ c.extent_rows.ensures c.in_err-extent_rows.was (handed_on c.from_residual-in_err-extent_rows.ensures)))))
 
 pub returns : goal.returns
 unfolding area_rows
-returns c = search rows depth 9
+returns c =
+    stage_passes _ _ c.magic_row.ensures c.in_ok-magic_row.was
+    (row_passes _ _ c.step.ensures c.policy_impossible.ensures c.in_ok-step.was
+    (stage_passes _ _ c.shape_rows.ensures c.in_ok-shape_rows.was
+    (stage_passes _ _ c.policy_rows.ensures c.in_ok-policy_rows.was
+    (stage_passes _ _ c.extent_rows.ensures c.in_ok-extent_rows.was c.hash_rows.ensures))))

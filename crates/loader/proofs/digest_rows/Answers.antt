@@ -1,12 +1,13 @@
 -- `loader::digest_rows` meets its contract: one row, and the rows of the shape, by their promises.
-use Rattle.header.proofs.Rows.{rows}
 use Rattle.loader.specs.Digest.{digest_rows}
+use Rattle.header.proofs.Rows.{handed_on, stage_fails, stage_passes}
 use Rattle.loader.proofs.digest_rows.Goals as goal
 
-pub returns-then-magic_missing : goal.returns-then-magic_missing
+pub returns-in_err-magic_row : goal.returns-in_err-magic_row
 unfolding digest_rows
-returns-then-magic_missing c = search rows depth 9
+returns-in_err-magic_row c = stage_fails _ _ c.magic_row.ensures c.in_err-magic_row.was (handed_on c.from_residual.ensures)
 
-pub returns-else-magic_missing : goal.returns-else-magic_missing
+pub returns : goal.returns
 unfolding digest_rows
-returns-else-magic_missing c = search rows depth 9
+returns c =
+    stage_passes _ _ c.magic_row.ensures c.in_ok-magic_row.was c.shape_rows.ensures

@@ -1,24 +1,29 @@
 -- `loader::shape_rows` meets its contract: each test is a row's by its promise, in the table's order.
-use Rattle.header.proofs.Rows.{rows}
 use Rattle.loader.specs.Check.{shape_rows}
+use Rattle.header.proofs.Rows.{handed_on, row_fails, row_passes, row_last}
 use Rattle.loader.proofs.shape_rows.Goals as goal
 
-pub returns-then-header_cut_at : goal.returns-then-header_cut_at
+pub returns-in_err-step : goal.returns-in_err-step
 unfolding shape_rows
-returns-then-header_cut_at c = search rows depth 9
+returns-in_err-step c = row_fails _ _ c.step.ensures c.is_cut.ensures c.in_err-step.was (handed_on c.from_residual.ensures)
 
-pub returns-then-hdr_len_wrong_at : goal.returns-then-hdr_len_wrong_at
+pub returns-in_err-step-2 : goal.returns-in_err-step-2
 unfolding shape_rows
-returns-then-hdr_len_wrong_at c = search rows depth 9
+returns-in_err-step-2 c =
+    row_passes _ _ c.step.ensures c.is_cut.ensures c.in_ok-step.was
+    (row_fails _ _ c.step-2.ensures c.hdr_len_wrong.ensures c.in_err-step-2.was (handed_on c.from_residual-in_err-step-2.ensures))
 
-pub returns-then-code_len_wrong_at : goal.returns-then-code_len_wrong_at
+pub returns-in_err-step-3 : goal.returns-in_err-step-3
 unfolding shape_rows
-returns-then-code_len_wrong_at c = search rows depth 9
-
-pub returns-then-bytes_not_zero_at : goal.returns-then-bytes_not_zero_at
-unfolding shape_rows
-returns-then-bytes_not_zero_at c = search rows depth 9
+returns-in_err-step-3 c =
+    row_passes _ _ c.step.ensures c.is_cut.ensures c.in_ok-step.was
+    (row_passes _ _ c.step-2.ensures c.hdr_len_wrong.ensures c.in_ok-step-2.was
+    (row_fails _ _ c.step-3.ensures c.code_len_wrong.ensures c.in_err-step-3.was (handed_on c.from_residual-in_err-step-3.ensures)))
 
 pub returns : goal.returns
 unfolding shape_rows
-returns c = search rows depth 9
+returns c =
+    row_passes _ _ c.step.ensures c.is_cut.ensures c.in_ok-step.was
+    (row_passes _ _ c.step-2.ensures c.hdr_len_wrong.ensures c.in_ok-step-2.was
+    (row_passes _ _ c.step-3.ensures c.code_len_wrong.ensures c.in_ok-step-3.was
+    (row_last _ c.step-4.ensures c.bytes_not_zero.ensures)))

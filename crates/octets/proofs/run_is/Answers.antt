@@ -1,18 +1,11 @@
--- After j turns the answer is that of the first j bytes of the run.
-use Prim.Native.Nat.{◌+◌}
-use mathlib.Core.Path.{◌≡◌, sym}
-use native.Mathlib.Omega.{arith}
-use borrow.Author.Rules.{rules}
-use Rattle.octets.proofs.Laws.{between_none, all_more}
+-- The fold says whether every byte is x.
+use Rattle.std.proofs.Common.{rules, tests, Bool, true, ◌&&◌, nat_eq, ◌∙◌}
+use Rattle.std.proofs.lemmas.Iterator.{YieldsList-from_slice}
+use Rattle.std.proofs.lemmas.Iterator.Consumers.{fold_from_yields_List}
+use Rattle.octets.proofs.Laws.{fold_all}
 use Rattle.octets.proofs.run_is.Goals as goal
-
-pub loop-j-init : goal.loop-j-init
-loop-j-init c = (search rules, rw (between_none c.args.at (c.args.at + 0) c.args.s.now (omega arith)))
-
-pub loop-j-preserved : goal.loop-j-preserved
-loop-j-preserved c = (search rules, rw c.loop-j.invariant.1 (sym (all_more c.args.x c.args.at c.loop-j.j c.args.s.now (omega arith))))
 
 pub returns : goal.returns
 returns c =
-    let e : c.loop-j.j ≡ 64 = omega arith in
-    rw e at c.loop-j.invariant.1
+    fold_from_yields_List _ (λ (all : Bool) y. all && nat_eq y c.args.x) true c.fold.result c.fold.ensures.ran (YieldsList-from_slice c.args.run.now cc) (λ a x b q k. search (rules, tests))
+    ∙ fold_all c.args.x true c.args.run.now

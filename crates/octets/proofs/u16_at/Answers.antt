@@ -1,7 +1,8 @@
--- Byte j of what is left from an offset is byte at + j of all.
-use mathlib.Core.Path.{◌∙◌}
-use Rattle.octets.proofs.Laws.{u16_rest}
+-- The number of the two bytes there.
+use Rattle.std.proofs.Common.{◌∙◌, ap}
+use Rattle.std.specs.Int.{from_le_bytes, w16}
+use Rattle.octets.proofs.Numbers.{u16_from_place}
 use Rattle.octets.proofs.u16_at.Goals as goal
 
 pub returns : goal.returns
-returns c = u16_rest c.args.s.now c.args.at c.rest-r.ensures (c.wide.ensures ∙ c.byte_at.ensures) (c.wide-2.ensures ∙ c.byte_at-2.ensures)
+returns c = c.from.ensures ∙ c.from_le_bytes.ensures ∙ ap (from_le_bytes w16) c.bytes_at.ensures ∙ u16_from_place c.args.s.now c.args.at

@@ -1,14 +1,8 @@
--- Byte j of what is left from an offset is byte at + j of all.
-use mathlib.Core.Path.{◌∙◌}
-use Rattle.octets.proofs.Laws.{u32_rest}
+-- The number of the four bytes there.
+use Rattle.std.proofs.Common.{◌∙◌, ap}
+use Rattle.std.specs.Int.{from_le_bytes, w32}
+use Rattle.octets.proofs.Numbers.{u32_from_place}
 use Rattle.octets.proofs.u32_at.Goals as goal
 
 pub returns : goal.returns
-returns c = u32_rest
-    c.args.s.now
-    c.args.at
-    c.rest-r.ensures
-    (c.wide.ensures ∙ c.byte_at.ensures)
-    (c.wide-2.ensures ∙ c.byte_at-2.ensures)
-    (c.wide-3.ensures ∙ c.byte_at-3.ensures)
-    (c.wide-4.ensures ∙ c.byte_at-4.ensures)
+returns c = c.from_le_bytes.ensures ∙ ap (from_le_bytes w32) c.bytes_at.ensures ∙ u32_from_place c.args.s.now c.args.at

@@ -1,7 +1,10 @@
--- Each byte is what the call that made it promises, in the order of the fields.
+-- Seven fields written one behind the other are the header's first 32 bytes.
+use Rattle.octets.specs.Put.{zeros}
 use Rattle.writer.specs.Firmware.{firmware_head}
+use Rattle.writer.proofs.Chain.{wrote_next}
 use Rattle.writer.proofs.firmware_head.Goals as goal
 
-pub returns : goal.returns
-unfolding firmware_head
-returns c = cc
+pub returns-clause-wrote : goal.returns-clause-wrote
+unfolding firmware_head zeros
+returns-clause-wrote c = rw (c.to_le_bytes.ensures, c.to_le_bytes-2.ensures, c.to_le_bytes-3.ensures, c.quad.ensures, c.quad-2.ensures) at
+    (wrote_next (wrote_next (wrote_next (wrote_next (wrote_next (wrote_next c.bytes.ensures c.bytes-2.ensures) c.bytes-3.ensures) c.bytes-4.ensures) c.bytes-5.ensures) c.bytes-6.ensures) c.zeros.ensures.wrote)

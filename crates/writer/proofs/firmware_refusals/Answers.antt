@@ -1,25 +1,20 @@
 -- Each test is a row's, in the table's order.
-use borrow.Author.Tests.{lt-ltb, le-ltb}
-use Rattle.header.proofs.Rows.{rows, passes, passes_here, fails_here, ends}
+use Rattle.header.proofs.Rows.{handed_on, row_fails, row_passes}
 use Rattle.writer.specs.Firmware.{firmware_refusals}
 use Rattle.writer.proofs.firmware_refusals.Goals as goal
 
-pub returns-then-length_impossible : goal.returns-then-length_impossible
+pub returns-in_err-step : goal.returns-in_err-step
 unfolding firmware_refusals
-returns-then-length_impossible c = search rows depth 9
+returns-in_err-step c = row_fails _ _ c.step.ensures c.length_impossible.ensures c.in_err-step.was (handed_on c.from_residual.ensures)
 
-pub returns-then-code_len_impossible : goal.returns-then-code_len_impossible
+pub returns-in_err-step-2 : goal.returns-in_err-step-2
 unfolding firmware_refusals
-returns-then-code_len_impossible c = search rows depth 9
-
-pub returns-then-room-lt1024 : goal.returns-then-room-lt1024
-unfolding firmware_refusals
-returns-then-room-lt1024 c = passes _ _ c.length_impossible.ensures c.if-length_impossible.false
-    (passes _ _ c.code_len_impossible.ensures c.if-code_len_impossible.false
-    (fails_here _ _ (lt-ltb _ _ c.if-room-lt1024.true) c.refuse-then-room-lt1024.ensures))
+returns-in_err-step-2 c =
+    row_passes _ _ c.step.ensures c.length_impossible.ensures c.in_ok-step.was
+    (row_fails _ _ c.step-2.ensures c.code_len_impossible.ensures c.in_err-step-2.was (handed_on c.from_residual-in_err-step-2.ensures))
 
 pub returns : goal.returns
 unfolding firmware_refusals
-returns c = passes _ _ c.length_impossible.ensures c.if-length_impossible.false
-    (passes _ _ c.code_len_impossible.ensures c.if-code_len_impossible.false
-    (passes_here _ _ (le-ltb _ _ c.if-room-lt1024.false) ends))
+returns c =
+    row_passes _ _ c.step.ensures c.length_impossible.ensures c.in_ok-step.was
+    (row_passes _ _ c.step-2.ensures c.code_len_impossible.ensures c.in_ok-step-2.was c.step-3.ensures)

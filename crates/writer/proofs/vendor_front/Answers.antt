@@ -4,16 +4,16 @@ use Prim.Native.Nat.{◌-◌}
 use mathlib.Core.Path.{◌≡◌}
 use mathlib.Core.List.{append_assoc}
 use lib.ListN.{length}
-use Rattle.octets.proofs.Splice.{next}
 use Rattle.header.specs.Layout.{string_end, picture_start}
 use Rattle.writer.specs.Vendor.{vendor_front}
+use Rattle.writer.proofs.Chain.{wrote_next}
 use Rattle.writer.proofs.vendor_front.Goals as goal
 
-pub returns : goal.returns
+pub returns-clause-wrote : goal.returns-clause-wrote
 unfolding vendor_front
-returns c =
-    let z : c.picture_start-start.result - c.put_bytes-d.result ≡ picture_start c.args.f.n (length c.args.string.now) - string_end c.args.f.n (length c.args.string.now) =
-    omega (arith, c.requires.1, c.picture_start-start.ensures, c.put_bytes-d.ensures.place, c.put_byte-c.ensures.place, c.put_bytes-b.ensures.place, c.put_bytes-a.ensures.place) in
-    rw (c.vendor_head-head.ensures, z) at
+returns-clause-wrote c =
+    let z : c.picture_start.result - c.bytes-2.new.self.at ≡ picture_start c.args.f.n (length c.args.string.now) - string_end c.args.f.n (length c.args.string.now) =
+    omega (arith, c.requires, c.picture_start.ensures, c.bytes-2.ensures.put.place, c.byte.ensures.put.place, c.bytes.ensures.put.place, c.vendor_head.ensures.place) in
+    rw z at
     (simp append_assoc at
-    (next (next (next (next c.put_bytes-a.ensures c.put_bytes-b.ensures) c.put_byte-c.ensures) c.put_bytes-d.ensures) c.put_zeros.ensures.1))
+    (wrote_next (wrote_next (wrote_next (wrote_next c.vendor_head.ensures.wrote c.bytes.ensures) c.byte.ensures) c.bytes-2.ensures) c.zeros.ensures.wrote))

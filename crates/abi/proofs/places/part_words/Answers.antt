@@ -11,9 +11,9 @@ pub returns : goal.returns
 unfolding part_words
 returns c = rw (
   eq-eqb _ _ c.if-number-ne0.false,
-  c.placed-s.ensures,
-  c.placed-p.ensures,
-  c.placed-c.ensures,
+  c.placed.ensures,
+  c.placed-2.ensures,
+  c.placed-3.ensures,
   c.string_span.ensures,
   c.picture_span.ensures,
   c.code_span.ensures,

@@ -1,47 +1,22 @@
--- `blake2s::blocks::absorb_run` meets its contract. The invariant: the blocks that are left lead from the state now to the state at last.
-use Rattle.std.proofs.Common.{◌+◌, ◌/◌, sym, ◌∙◌, arith}
-use Rattle.blake2s.proofs.Laws.{absorbed_step, absorbed_all, absorbed_count, run_at_lem}
+-- `blake2s::blocks::absorb_run` meets its contract. The invariant: the state now is that after the blocks before offset o.
+use Rattle.std.proofs.Common.{◌≡◌, ◌+◌, ◌-◌, ◌*◌, ◌/◌, refl, arith}
+use Rattle.blake2s.proofs.Laws.{absorbed_none, absorbed_more}
 use Rattle.blake2s.proofs.blocks.absorb_run.Goals as goal
 
 pub loop-o-init : goal.loop-o-init
-loop-o-init c = (omega arith, omega arith, absorbed_count _ _ _ c.args.at c.args.count)
+loop-o-init c = record { in_range = omega arith; whole = refl; so_far = absorbed_none _ _ _ _ }
 
 pub loop-o-preserved : goal.loop-o-preserved
-loop-o-preserved c = (
-  omega arith,
-  omega arith,
-  absorbed_step _ _ _ c.args.at c.loop-o.o _ (omega arith) (omega arith)
-      (run_at_lem c.args.s.now c.args.i c.args.at c.loop-o.o (omega arith) c.loop-o.invariant.1)
-      c.counter.ensures c.is_last.ensures c.mix_at-now.ensures
-      ∙ c.loop-o.invariant.2,
-)
+loop-o-preserved c =
+    let j = c.loop-o.o / 64 in
+    let place : 64 * (c.args.k + j - c.args.k) ≡ c.loop-o.o = omega (arith, c.loop-o.invariant.whole) in
+    let stop : 64 * c.args.k + c.loop-o.o + 64 ≡ 64 * (c.args.k + j) + 64 = omega (arith, c.loop-o.invariant.whole) in
+    let next : (c.loop-o.o + 64) / 64 ≡ j + 1 = omega arith in
+    record {
+      in_range = omega (arith, c.loop-o.invariant.whole);
+      whole = omega (arith, c.loop-o.invariant.whole);
+      so_far = rw next (absorbed_more _ _ _ c.args.k j c.loop-o.invariant.so_far (rw place) (rw stop at c.min.ensures) (rw stop) c.mix_at-now.ensures);
+    }
 
 pub returns : goal.returns
-returns c = sym (absorbed_all _ _ _ ((c.args.at + c.loop-o.o) / 64) _ (omega arith)) ∙ c.loop-o.invariant.2
-
-pub overflow_mul-end : goal.overflow_mul-end
-overflow_mul-end c = omega arith
-
-pub overflow_add-i : goal.overflow_add-i
-overflow_add-i c = omega arith
-
-pub overflow_add-at : goal.overflow_add-at
-overflow_add-at c = omega arith
-
-pub counter-requires : goal.counter-requires
-counter-requires c = omega arith
-
-pub overflow_add-at-in-loop-o : goal.overflow_add-at-in-loop-o
-overflow_add-at-in-loop-o c = omega arith
-
-pub is_last-requires : goal.is_last-requires
-is_last-requires c = omega arith
-
-pub mix_at-now-requires : goal.mix_at-now-requires
-mix_at-now-requires c = omega arith
-
-pub overflow_add-o : goal.overflow_add-o
-overflow_add-o c = omega arith
-
-pub loop-o-smaller : goal.loop-o-smaller
-loop-o-smaller c = omega arith
+returns c = let z : c.loop-o.o / 64 ≡ c.args.count = omega (arith, c.loop-o.invariant.whole) in rw z at c.loop-o.invariant.so_far

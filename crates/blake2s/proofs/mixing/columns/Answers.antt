@@ -7,7 +7,7 @@ unfolding columns_mixed mixed
 returns c = columns_met _ _ _ _ _ _ _ _ _ _ _ _ _ _ _ _ _ _ _ _ _ _ _ _
     (rw (
       ← c.g-q.ensures,
-      ← handed c.three.ensures.0 c.three-2.ensures.0 c.three-3.ensures.0 c.three-4.ensures.0 c.three-5.ensures.0 c.three-6.ensures.0 c.g3-p.ensures.0,
-      ← handed c.three.ensures.1 c.three-2.ensures.1 c.three-3.ensures.1 c.three-4.ensures.1 c.three-5.ensures.1 c.three-6.ensures.1 c.g3-p.ensures.1,
-      ← handed c.three.ensures.2 c.three-2.ensures.2 c.three-3.ensures.2 c.three-4.ensures.2 c.three-5.ensures.2 c.three-6.ensures.2 c.g3-p.ensures.2,
+      ← handed c.new.ensures.0 c.new-2.ensures.0 c.new-3.ensures.0 c.new-4.ensures.0 c.new-5.ensures.0 c.new-6.ensures.0 c.g3-p.ensures.0,
+      ← handed c.new.ensures.1 c.new-2.ensures.1 c.new-3.ensures.1 c.new-4.ensures.1 c.new-5.ensures.1 c.new-6.ensures.1 c.g3-p.ensures.1,
+      ← handed c.new.ensures.2 c.new-2.ensures.2 c.new-3.ensures.2 c.new-4.ensures.2 c.new-5.ensures.2 c.new-6.ensures.2 c.g3-p.ensures.2,
     ))

@@ -1,32 +1,48 @@
 -- `header::table::vendor_shape` meets its contract: each test is a row's by its promise, in the table's order.
 use Rattle.header.specs.Table.{vendor_shape}
-use Rattle.header.proofs.Rows.{rows}
+use Rattle.header.proofs.Rows.{handed_on, row_fails, row_passes, row_last}
 use Rattle.header.proofs.table.vendor_shape.Goals as goal
 
-pub returns-then-shorter_than_any_header : goal.returns-then-shorter_than_any_header
+pub returns-in_err-step : goal.returns-in_err-step
 unfolding vendor_shape
-returns-then-shorter_than_any_header c = search rows depth 9
+returns-in_err-step c = row_fails _ _ c.step.ensures c.shorter_than_any_header.ensures c.in_err-step.was (handed_on c.from_residual.ensures)
 
-pub returns-then-vendor_len_impossible : goal.returns-then-vendor_len_impossible
+pub returns-in_err-step-2 : goal.returns-in_err-step-2
 unfolding vendor_shape
-returns-then-vendor_len_impossible c = search rows depth 9
+returns-in_err-step-2 c =
+    row_passes _ _ c.step.ensures c.shorter_than_any_header.ensures c.in_ok-step.was
+    (row_fails _ _ c.step-2.ensures c.vendor_len_impossible.ensures c.in_err-step-2.was (handed_on c.from_residual-in_err-step-2.ensures))
 
-pub returns-then-vendor_header_cut : goal.returns-then-vendor_header_cut
+pub returns-in_err-step-3 : goal.returns-in_err-step-3
 unfolding vendor_shape
-returns-then-vendor_header_cut c = search rows depth 9
+returns-in_err-step-3 c =
+    row_passes _ _ c.step.ensures c.shorter_than_any_header.ensures c.in_ok-step.was
+    (row_passes _ _ c.step-2.ensures c.vendor_len_impossible.ensures c.in_ok-step-2.was
+    (row_fails _ _ c.step-3.ensures c.vendor_header_cut.ensures c.in_err-step-3.was (handed_on c.from_residual-in_err-step-3.ensures)))
 
-pub returns-then-vendor_keys_impossible : goal.returns-then-vendor_keys_impossible
+pub returns-in_err-step-4 : goal.returns-in_err-step-4
 unfolding vendor_shape
-returns-then-vendor_keys_impossible c = search rows depth 9
+returns-in_err-step-4 c =
+    row_passes _ _ c.step.ensures c.shorter_than_any_header.ensures c.in_ok-step.was
+    (row_passes _ _ c.step-2.ensures c.vendor_len_impossible.ensures c.in_ok-step-2.was
+    (row_passes _ _ c.step-3.ensures c.vendor_header_cut.ensures c.in_ok-step-3.was
+    (row_fails _ _ c.step-4.ensures c.vendor_keys_impossible.ensures c.in_err-step-4.was (handed_on c.from_residual-in_err-step-4.ensures))))
 
-pub returns-then-string_leaves_no_room : goal.returns-then-string_leaves_no_room
+pub returns-in_err-step-5 : goal.returns-in_err-step-5
 unfolding vendor_shape
-returns-then-string_leaves_no_room c = search rows depth 9
-
-pub returns-then-vendor_bytes_not_zero : goal.returns-then-vendor_bytes_not_zero
-unfolding vendor_shape
-returns-then-vendor_bytes_not_zero c = search rows depth 9
+returns-in_err-step-5 c =
+    row_passes _ _ c.step.ensures c.shorter_than_any_header.ensures c.in_ok-step.was
+    (row_passes _ _ c.step-2.ensures c.vendor_len_impossible.ensures c.in_ok-step-2.was
+    (row_passes _ _ c.step-3.ensures c.vendor_header_cut.ensures c.in_ok-step-3.was
+    (row_passes _ _ c.step-4.ensures c.vendor_keys_impossible.ensures c.in_ok-step-4.was
+    (row_fails _ _ c.step-5.ensures c.string_leaves_no_room.ensures c.in_err-step-5.was (handed_on c.from_residual-in_err-step-5.ensures)))))
 
 pub returns : goal.returns
 unfolding vendor_shape
-returns c = search rows depth 9
+returns c =
+    row_passes _ _ c.step.ensures c.shorter_than_any_header.ensures c.in_ok-step.was
+    (row_passes _ _ c.step-2.ensures c.vendor_len_impossible.ensures c.in_ok-step-2.was
+    (row_passes _ _ c.step-3.ensures c.vendor_header_cut.ensures c.in_ok-step-3.was
+    (row_passes _ _ c.step-4.ensures c.vendor_keys_impossible.ensures c.in_ok-step-4.was
+    (row_passes _ _ c.step-5.ensures c.string_leaves_no_room.ensures c.in_ok-step-5.was
+    (row_last _ c.step-6.ensures c.vendor_bytes_not_zero.ensures)))))

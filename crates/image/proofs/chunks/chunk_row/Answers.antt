@@ -5,8 +5,8 @@ use Rattle.image.proofs.chunks.chunk_row.Goals as goal
 
 pub returns-then-same_digest : goal.returns-then-same_digest
 unfolding chunk_row
-returns-then-same_digest c = row_passed _ (rw (c.same_digest.ensures, c.hash_of-right.ensures) at c.if-same_digest.true)
+returns-then-same_digest g c = row_passed _ (rw (c.same_digest.ensures, c.hash_of-right.ensures) at c.if-same_digest.true)
 
 pub returns : goal.returns
 unfolding chunk_row
-returns c = row_failed (rw (c.same_digest.ensures, c.hash_of-right.ensures) at c.if-same_digest.false) c.wrong_hash.ensures
+returns g c = row_failed (rw (c.same_digest.ensures, c.hash_of-right.ensures) at c.if-same_digest.false) c.wrong_hash.ensures

@@ -9,12 +9,12 @@ use Rattle.image.proofs.chunks.hash_table_at.Goals as goal
 
 pub loop-k-init : goal.loop-k-init
 unfolding hashes_at
-loop-k-init c = (search rules, search rules, refl)
+loop-k-init c = (search rules, refl)
 
 pub loop-k-preserved : goal.loop-k-preserved
-loop-k-preserved c = (search rules, search rules, hash_at_more c.loop-k.t _ _ c.loop-k.k (omega arith) c.loop-k.invariant.2 c.digest_at.ensures)
+loop-k-preserved c = (search rules, hash_at_more c.loop-k.t _ _ c.loop-k.k (omega arith) c.loop-k.invariant.1 c.bytes_at.ensures)
 
 pub returns : goal.returns
 returns c =
     let e : c.loop-k.k ≡ 16 = omega arith in
-    sym (take_all 16 c.loop-k.t (omega arith)) ∙ (rw e at c.loop-k.invariant.2)
+    sym (take_all 16 c.loop-k.t (omega arith)) ∙ (rw e at c.loop-k.invariant.1)

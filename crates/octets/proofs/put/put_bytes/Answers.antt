@@ -8,30 +8,15 @@ use Rattle.octets.proofs.Splice.{splice_paste}
 use Rattle.octets.proofs.put.put_bytes.Goals as goal
 
 pub loop-i-init : goal.loop-i-init
-loop-i-init c = (omega arith, refl, paste-zero _ c.args.at c.args.s.now)
-
-pub bounds-s-i : goal.bounds-s-i
-bounds-s-i c = omega arith
-
-pub overflow_add-out : goal.overflow_add-out
-overflow_add-out c = omega arith
-
-pub bounds-out-at : goal.bounds-out-at
-bounds-out-at c = omega arith
-
-pub overflow_add-i : goal.overflow_add-i
-overflow_add-i c = omega arith
-
-pub loop-i-smaller : goal.loop-i-smaller
-loop-i-smaller c = omega arith
+loop-i-init c = record { same_length = refl; pasted = paste-zero _ c.args.at c.args.s.now }
 
 pub loop-i-preserved : goal.loop-i-preserved
-loop-i-preserved c = (omega arith, simp length-set c.loop-i.invariant.1, rw (c.loop-i.invariant.2, add-one) (paste-suc c.args.out.now c.args.at c.args.s.now c.loop-i.i 0 (omega arith) (omega arith)))
-
-pub overflow_add-result : goal.overflow_add-result
-overflow_add-result c = omega arith
+loop-i-preserved c = record {
+  same_length = simp length-set c.loop-i.invariant.same_length;
+  pasted = rw (c.loop-i.invariant.pasted, add-one) (paste-suc c.args.out.now c.args.at c.args.s.now c.loop-i.i 0 (omega arith) (omega arith));
+}
 
 pub returns : goal.returns
 returns c =
     let e : c.loop-i.i ≡ length c.args.s.now = omega arith in
-    record { room = omega (arith); place = omega arith; is = (rw e at c.loop-i.invariant.2) ∙ splice_paste c.args.at c.args.s.now c.args.out.now }
+    record { room = omega (arith); place = omega arith; is = (rw e at c.loop-i.invariant.pasted) ∙ splice_paste c.args.at c.args.s.now c.args.out.now }

@@ -1,28 +1,38 @@
 -- `older_model::table::v2_shape` meets its contract: each test is a row's by its promise, in the table's order.
-use Rattle.header.proofs.Rows.{rows}
 use Rattle.older_model.specs.Check.{v2_shape}
+use Rattle.header.proofs.Rows.{handed_on, row_fails, row_passes, row_last}
 use Rattle.older_model.proofs.table.v2_shape.Goals as goal
 
-pub returns-then-magic_missing_at : goal.returns-then-magic_missing_at
+pub returns-in_err-step : goal.returns-in_err-step
 unfolding v2_shape
-returns-then-magic_missing_at c = search rows depth 9
+returns-in_err-step c = row_fails _ _ c.step.ensures c.magic_missing.ensures c.in_err-step.was (handed_on c.from_residual.ensures)
 
-pub returns-then-header_cut_at : goal.returns-then-header_cut_at
+pub returns-in_err-step-2 : goal.returns-in_err-step-2
 unfolding v2_shape
-returns-then-header_cut_at c = search rows depth 9
+returns-in_err-step-2 c =
+    row_passes _ _ c.step.ensures c.magic_missing.ensures c.in_ok-step.was
+    (row_fails _ _ c.step-2.ensures c.is_cut.ensures c.in_err-step-2.was (handed_on c.from_residual-in_err-step-2.ensures))
 
-pub returns-then-hdr_len_wrong_at : goal.returns-then-hdr_len_wrong_at
+pub returns-in_err-step-3 : goal.returns-in_err-step-3
 unfolding v2_shape
-returns-then-hdr_len_wrong_at c = search rows depth 9
+returns-in_err-step-3 c =
+    row_passes _ _ c.step.ensures c.magic_missing.ensures c.in_ok-step.was
+    (row_passes _ _ c.step-2.ensures c.is_cut.ensures c.in_ok-step-2.was
+    (row_fails _ _ c.step-3.ensures c.hdr_len_wrong.ensures c.in_err-step-3.was (handed_on c.from_residual-in_err-step-3.ensures)))
 
-pub returns-then-v2_code_len_wrong : goal.returns-then-v2_code_len_wrong
+pub returns-in_err-step-4 : goal.returns-in_err-step-4
 unfolding v2_shape
-returns-then-v2_code_len_wrong c = search rows depth 9
-
-pub returns-then-v2_bytes_not_zero : goal.returns-then-v2_bytes_not_zero
-unfolding v2_shape
-returns-then-v2_bytes_not_zero c = search rows depth 9
+returns-in_err-step-4 c =
+    row_passes _ _ c.step.ensures c.magic_missing.ensures c.in_ok-step.was
+    (row_passes _ _ c.step-2.ensures c.is_cut.ensures c.in_ok-step-2.was
+    (row_passes _ _ c.step-3.ensures c.hdr_len_wrong.ensures c.in_ok-step-3.was
+    (row_fails _ _ c.step-4.ensures c.v2_code_len_wrong.ensures c.in_err-step-4.was (handed_on c.from_residual-in_err-step-4.ensures))))
 
 pub returns : goal.returns
 unfolding v2_shape
-returns c = search rows depth 9
+returns c =
+    row_passes _ _ c.step.ensures c.magic_missing.ensures c.in_ok-step.was
+    (row_passes _ _ c.step-2.ensures c.is_cut.ensures c.in_ok-step-2.was
+    (row_passes _ _ c.step-3.ensures c.hdr_len_wrong.ensures c.in_ok-step-3.was
+    (row_passes _ _ c.step-4.ensures c.v2_code_len_wrong.ensures c.in_ok-step-4.was
+    (row_last _ c.step-5.ensures c.v2_bytes_not_zero.ensures))))

@@ -1,37 +1,27 @@
 -- `sha256::mixing::all_rounds` meets its contract. The invariant: the rounds that are left lead from the working variables now to those at last.
-use Rattle.std.proofs.Common.{◌≡◌, ◌+◌, ◌-◌, length, refl, ◌∙◌, arith}
+use Rattle.std.proofs.Common.{◌≡◌, ℕ, zero, suc, ◌+◌, ◌*◌, ◌<◌, drop, get_or, [], length, refl, ◌∙◌, arith}
 use Rattle.sha256.specs.Fips180.{K}
-use Rattle.sha256.specs.Words.{state, block}
-use Rattle.sha256.proofs.Rounds.{group, next_group, last_group, length_constants}
+use Rattle.sha256.specs.declared.mixing.TheConstants.{CONSTANTS}
+use Rattle.sha256.specs.Words.{state, block, sixteen_at}
+use Rattle.sha256.proofs.Rounds.{group, next_row, last_group, length_constants}
 use Rattle.sha256.proofs.mixing.all_rounds.Goals as goal
 
-pub loop-t-init : goal.loop-t-init
-loop-t-init c = (omega arith, omega arith, refl)
+-- the rows after the first are the constants from 16 on
+later : (i : ℕ) → i < 3 → sixteen_at (get_or (drop 1 CONSTANTS) i []) 0 ≡ sixteen_at K (16 * i + 16)
+unfolding K
+later zero h = refl
+later (suc zero) h = refl
+later (suc (suc zero)) h = refl
+later (suc (suc (suc i))) h = absurd (omega arith)
 
-pub loop-t-preserved : goal.loop-t-preserved
-loop-t-preserved c =
-    let n : length K ≡ 64 = length_constants in (
-      omega arith,
-      omega arith,
-      next_group _ K _ _ c.loop-t.t (64 - c.loop-t.t) (64 - (c.loop-t.t + 16)) (omega arith) (omega arith) refl refl c.rounds_from-now.ensures.w_value c.rounds_from-now.ensures.v_value
-          ∙ c.loop-t.invariant.2,
-    )
+pub loop-k-init : goal.loop-k-init
+loop-k-init c = refl
+
+pub loop-k-preserved : goal.loop-k-preserved
+loop-k-preserved c = next_row _ _ _ (get_or (drop 1 CONSTANTS) c.loop-k.k-index []) c.loop-k.k-index c.loop-k-test.true refl refl c.next_words-w.ensures (later _ c.loop-k-test.true) c.sixteen_rounds-v-in-loop-k.ensures ∙ c.loop-k.invariant
 
 pub returns : goal.returns
+unfolding K
 returns c =
-    let k = c.constants_at-k in
-    let a = c.args in
     let n : length K ≡ 64 = length_constants in
-    last_group _ K _ c.loop-t.t (omega arith) ∙ c.loop-t.invariant.2 ∙ group (state a.h) K (block a.w) 0 48 (omega arith) refl (rw k.ensures at c.first_rounds-v.ensures)
-
-pub constants_at-k-requires : goal.constants_at-k-requires
-constants_at-k-requires c = (omega arith, omega arith)
-
-pub rounds_from-now-requires : goal.rounds_from-now-requires
-rounds_from-now-requires c = (c.loop-t.invariant.1, omega arith)
-
-pub overflow_add-t : goal.overflow_add-t
-overflow_add-t c = omega arith
-
-pub loop-t-smaller : goal.loop-t-smaller
-loop-t-smaller c = omega arith
+    last_group _ K _ (16 * c.loop-k.k-index + 16) (omega arith) ∙ c.loop-k.invariant ∙ group (state c.args.h) K (block c.args.m) 0 48 (omega arith) refl c.sixteen_rounds-v.ensures

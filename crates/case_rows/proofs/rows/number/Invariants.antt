@@ -1,9 +1,0 @@
--- `case_rows::rows::number` ends: each turn passes a byte of the row.
-use Rattle.std.proofs.Common.{◌-◌, ◌≤◌, length}
-use Rattle.case_rows.proofs.rows.number.Given as goal
-
-abbrev pub invariant-loop-i : goal.invariant-loop-i
-invariant-loop-i l = l.i ≤ length l.row
-
-abbrev pub decreases-loop-i : goal.decreases-loop-i
-decreases-loop-i l = length l.row - l.i
