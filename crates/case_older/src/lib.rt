@@ -13,9 +13,6 @@ pub use older_model::forms::{Alone, Pair};
 use older_model::{OlderInputs, Verdicts};
 use std::io;
 
-// How many bytes the legacy header has, behind which the V2 header of the pair stands.
-pub const LEGACY: u32 = 256;
-
 // How many erased bytes follow the image in a slot.
 const ERASED: u32 = 64;
 
@@ -39,26 +36,26 @@ fn inputs(row: Row) -> OlderInputs {
     }
 }
 
-// An image of the form, whose V2 header stands at a place, checked as a file.
-pub fn file<F: Form>(rt: &impl Print, row: Row, at: u32, b: &mut [u8]) -> io::Result<()> {
-    let bytes = lent(row, at, 0, b);
+// An image of the form, checked as a file.
+pub fn file<F: Form>(rt: &impl Print, row: Row, b: &mut [u8]) -> io::Result<()> {
+    let bytes = lent(row, F::AT, 0, b);
     let answer = older_model::check_file::<F>(bytes, inputs(row));
     show::checked(rt, answer, older_model::code::<F>(bytes, answer))
 }
 
 // The same checked as a slot.
-pub fn slot<F: Form>(rt: &impl Print, row: Row, at: u32, b: &mut [u8]) -> io::Result<()> {
-    let bytes = lent(row, at, ERASED, b);
+pub fn slot<F: Form>(rt: &impl Print, row: Row, b: &mut [u8]) -> io::Result<()> {
+    let bytes = lent(row, F::AT, ERASED, b);
     let answer = older_model::check_slot::<F>(bytes, inputs(row));
     show::checked(rt, answer, older_model::code::<F>(bytes, answer))
 }
 
 // The digest to be signed of the V2 header, or the refusal in its place.
-pub fn question<F: Form>(rt: &impl Print, row: Row, at: u32, b: &mut [u8]) -> io::Result<()> {
-    show::question(rt, v2_digest::<F>(lent(row, at, 0, b)))
+pub fn question<F: Form>(rt: &impl Print, row: Row, b: &mut [u8]) -> io::Result<()> {
+    show::question(rt, v2_digest::<F>(lent(row, F::AT, 0, b)))
 }
 
 // The digest to be signed of the legacy header in the pair.
 pub fn legacy_question(rt: &impl Print, row: Row, b: &mut [u8]) -> io::Result<()> {
-    show::question(rt, pair_legacy_digest(lent(row, LEGACY, 0, b)))
+    show::question(rt, pair_legacy_digest(lent(row, Pair::AT, 0, b)))
 }

@@ -7,7 +7,7 @@ mod installs;
 mod records;
 
 use case_images::{checks, writers};
-use case_older::{Alone, LEGACY, Pair};
+use case_older::{Alone, Pair};
 use case_rows::build;
 use case_rows::rows::{Kind, Row};
 use installs::{Between, install};
@@ -36,12 +36,12 @@ fn answer(rt: &impl Print, row: Row, image: &mut [u8], b: &mut [u8]) -> io::Resu
         Kind::Internal => case_loaders::internal(rt, row, b),
         Kind::Question => case_loaders::question(rt, row, b),
         Kind::Choose => case_loaders::choose(rt, row, image, b),
-        Kind::V2File => case_older::file::<Alone>(rt, row, 0, b),
-        Kind::V2Slot => case_older::slot::<Alone>(rt, row, 0, b),
-        Kind::V2Question => case_older::question::<Alone>(rt, row, 0, b),
-        Kind::PairFile => case_older::file::<Pair>(rt, row, LEGACY, b),
-        Kind::PairSlot => case_older::slot::<Pair>(rt, row, LEGACY, b),
-        Kind::PairQuestion => case_older::question::<Pair>(rt, row, LEGACY, b),
+        Kind::V2File => case_older::file::<Alone>(rt, row, b),
+        Kind::V2Slot => case_older::slot::<Alone>(rt, row, b),
+        Kind::V2Question => case_older::question::<Alone>(rt, row, b),
+        Kind::PairFile => case_older::file::<Pair>(rt, row, b),
+        Kind::PairSlot => case_older::slot::<Pair>(rt, row, b),
+        Kind::PairQuestion => case_older::question::<Pair>(rt, row, b),
         Kind::LegacyQuestion => case_older::legacy_question(rt, row, b),
     }
 }
