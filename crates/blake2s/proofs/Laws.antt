@@ -1,10 +1,9 @@
 -- Laws of the definition that the proofs cite: rounds, blocks, and messages whose bytes do not lie together.
 -- Assumes nothing.
-use Rattle.std.proofs.Common.{◌≡◌, ℕ, zero, suc, ◌+◌, ◌-◌, ◌*◌, ◌<◌, ◌≤◌, min, Bool, List, [], ◌∷◌, ◌++◌, length, get_or, take, drop, replicate, sym, refl, ap, ◌∙◌, add-zero, arith, length-append, length-take-le, get_or-drop, get_or-take, get_or-append-add, le-ltb, lt-ltb}
+use Rattle.std.proofs.Common.{◌≡◌, ℕ, zero, suc, ◌+◌, ◌-◌, ◌*◌, ◌<◌, ◌≤◌, min, Bool, List, [], ◌∷◌, ◌++◌, length, get_or, take, drop, replicate, sym, refl, ap, ◌∙◌, add-zero, arith, length-append, length-drop, length-take-le, get_or-drop, get_or-take, get_or-append-add, le-ltb, lt-ltb}
 use native.Mathlib.Nat.{sub-zero}
 use lib.ListN.{length-replicate, get_or-append, get_or-eq_default}
-use borrow.Rule.Slice.PartMut.{put_mid}
-use Rattle.std.proofs.lemmas.List.{take_at, drop_at}
+use lib.Seq.{paste, length_paste_head}
 use native.Mathlib.Decide.{dec_le}
 use Rattle.blake2s.specs.Rfc7693.{at, columns, diagonals, round, rounds, work_vector, folded, SIGMA, F, word_at, four_at, block_at, block_count, is_last, counter, absorbed, initial, serialised, blake2s_of}
 use Rattle.blake2s.specs.Parts.{block_of, run_at, zero_tailed}
@@ -115,34 +114,55 @@ block_alike d i e j h =
 
 -- ---- a block copied together
 
+-- what stands in d before, in and behind the n bytes of s that are copied over it at an offset
+module _ (d s : List ℕ) (at n : ℕ) (room : at + n ≤ length d) (there : n ≤ length s) where
+  head_length : length (take at d) ≡ at
+  head_length = length-take-le at d (omega arith)
+
+  both_length : length (take at d ++ take n s) ≡ at + n
+  both_length = length_paste_head d at s n (omega arith) there
+
+  pub copied_before : (k : ℕ) → k < at → get_or (paste d at s n) k 0 ≡ get_or d k 0
+  copied_before k h =
+      get_or-append (take at d ++ take n s) (drop (at + n) d) 0 k (omega (arith, both_length))
+      ∙ get_or-append (take at d) (take n s) 0 k (omega (arith, head_length))
+      ∙ get_or-take at d k 0 h
+
+  pub copied_in : (k : ℕ) → k < n → get_or (paste d at s n) (at + k) 0 ≡ get_or s k 0
+  copied_in k h =
+      get_or-append (take at d ++ take n s) (drop (at + n) d) 0 (at + k) (omega (arith, both_length))
+      ∙ ap (λ (i : ℕ). get_or (take at d ++ take n s) (i + k) 0) (sym head_length)
+      ∙ get_or-append-add (take at d) (take n s) k 0
+      ∙ get_or-take n s k 0 h
+
+  pub copied_behind : (k : ℕ) → get_or (paste d at s n) (at + n + k) 0 ≡ get_or d (at + n + k) 0
+  copied_behind k =
+      ap (λ (i : ℕ). get_or (paste d at s n) (i + k) 0) (sym both_length)
+      ∙ get_or-append-add (take at d ++ take n s) (drop (at + n) d) k 0
+      ∙ get_or-drop (at + n) d k 0
+
 zeros_at : (n k : ℕ) → ◌≡◌ {A = ℕ} (get_or (replicate n 0) k 0) 0
 zeros_at zero k = refl
 zeros_at (suc n) zero = refl
 zeros_at (suc n) (suc k) = zeros_at n k
 
--- the bytes of s copied over z zeros read as those of s
-copied_at : (s : List ℕ) (z n j : ℕ) → n ≡ min (length s) z → j < z → get_or (take n s ++ drop n (replicate z 0)) j 0 ≡ get_or s j 0
-copied_at s z n j e l = elim (dec_le n j) [ yes y ↦ past y | no y ↦ here (omega arith) ]
-  where
-    taken : length (take n s) ≡ n
-    taken = length-take-le n s (omega arith)
-
-    here : j < n → get_or (take n s ++ drop n (replicate z 0)) j 0 ≡ get_or s j 0
-    here h = get_or-append (take n s) (drop n (replicate z 0)) 0 j (omega (arith, taken)) ∙ get_or-take n s j 0 h
-
-    past : n ≤ j → get_or (take n s ++ drop n (replicate z 0)) j 0 ≡ get_or s j 0
-    past h =
-        let i : j ≡ length (take n s) + (j - n) = omega (arith, taken) in
-        ap (λ (k : ℕ). get_or (take n s ++ drop n (replicate z 0)) k 0) i
-        ∙ get_or-append-add (take n s) (drop n (replicate z 0)) (j - n) 0
-        ∙ get_or-drop n (replicate z 0) (j - n) 0
-        ∙ zeros_at z (n + (j - n))
-        ∙ sym (get_or-eq_default s 0 (omega arith))
-
 -- the bytes of s from i on, copied over zeros
-pub block_copied : {b r : List ℕ} {n : ℕ} (s : List ℕ) (i : ℕ) → r ≡ drop i s → n ≡ min (length r) 64 → b ≡ take n r → block_at (b ++ drop n (replicate 64 0)) 0 ≡ block_at s i
-block_copied {r = r} {n = n} s i p e q =
-    rw q (block_alike (take n r ++ drop n (replicate 64 0)) 0 s i (λ k g. let z : 0 + k ≡ k = omega arith in rw z (copied_at r 64 n k e g ∙ ap (λ (l : List ℕ). get_or l k 0) p ∙ get_or-drop i s k 0)))
+pub block_copied : {c r : List ℕ} {n : ℕ} (s : List ℕ) (i : ℕ) → r ≡ drop i s → n ≡ min (length r) 64 → c ≡ paste (replicate 64 0) 0 r n → block_at c 0 ≡ block_at s i
+block_copied {c} {r} {n} s i e l q = block_alike c 0 s i (λ k g. elim (dec_le n k) [ yes y ↦ past k g y | no y ↦ here k (omega arith) ])
+  where
+    long : length r ≡ length s - i
+    long = ap length e ∙ length-drop i s
+
+    room : 0 + n ≤ length (replicate {A = ℕ} 64 0)
+    room = omega (arith, length-replicate {A = ℕ} 64 0)
+
+    here : (k : ℕ) → k < n → at c (0 + k) ≡ at s (i + k)
+    here k y = rw q (copied_in (replicate 64 0) r 0 n room (omega arith) k y) ∙ ap (λ (x : List ℕ). get_or x k 0) e ∙ get_or-drop i s k 0
+
+    past : (k : ℕ) → k < 64 → n ≤ k → at c (0 + k) ≡ at s (i + k)
+    past k g y =
+        let z : 0 + k ≡ 0 + n + (k - n) = omega arith in
+        rw (q, z) (copied_behind (replicate 64 0) r 0 n room (omega arith) (k - n)) ∙ zeros_at 64 (0 + n + (k - n)) ∙ sym (get_or-eq_default s 0 (omega (arith, long)))
 
 -- ---- the blocks of a message
 
@@ -213,19 +233,44 @@ module _ (w s : List ℕ) where
       e ∙ ap serialised (rw (q, t) (absorbed_same _ _ _ _ _ _ (λ k g h. message_block first skip l b p k)))
 
   -- its first block, copied together behind a word
-  pub word_block : {a c : List ℕ} {n : ℕ} → length w ≡ 4 → n ≡ min (length s) 60 → a ≡ w → c ≡ take n s → block_at (put_mid 4 (4 + n - 4) (a ++ replicate 60 0) c) 0 ≡ block_at message 0
-  word_block {n = n} l m e f = let z : 4 + n - 4 ≡ n = omega arith in rw (z, f, e, take_at w (replicate 60 0) 4 l, drop_at w (replicate 60 0) 4 l) (block_alike (w ++ tail) 0 message 0 same)
+  pub word_block : {a c : List ℕ} {n : ℕ} → length w ≡ 4 → n ≡ min (length s) 60 → a ≡ paste (replicate 64 0) 0 w 4 → length a ≡ 64 → c ≡ paste a 4 s n → block_at c 0 ≡ block_at message 0
+  word_block {a} {c} {n} l m e la f = block_alike c 0 message 0 (λ k g. elim (dec_le 4 k) [ yes y ↦ elim (dec_le (4 + n) k) [ yes z ↦ past k g z | no z ↦ here k y (omega arith) ] | no y ↦ first k (omega arith) ])
     where
-      tail : List ℕ
-      tail = take n s ++ drop n (replicate 60 0)
+      room : 0 + 4 ≤ length (replicate {A = ℕ} 64 0)
+      room = omega (arith, length-replicate {A = ℕ} 64 0)
 
-      same : (k : ℕ) → k < 64 → at (w ++ tail) (0 + k) ≡ at message (0 + k)
-      same k g = elim (dec_le 4 k) [ yes y ↦ behind y | no y ↦ get_or-append w tail 0 (0 + k) (omega arith) ∙ sym (get_or-append w (zero_tailed s) 0 (0 + k) (omega arith)) ]
-        where
-          behind : 4 ≤ k → at (w ++ tail) (0 + k) ≡ at message (0 + k)
-          behind y =
-              let z : 0 + k ≡ length w + (k - 4) = omega arith in
-              rw z (get_or-append-add w tail (k - 4) 0 ∙ copied_at s 60 n (k - 4) m (omega arith) ∙ sym (message_at (k - 4)))
+      behind : 4 + n ≤ length a
+      behind = omega arith
+
+      there : n ≤ length s
+      there = omega arith
+
+      first : (k : ℕ) → k < 4 → at c (0 + k) ≡ at message (0 + k)
+      first k h =
+          let z : 0 + k ≡ k = omega arith in
+          rw (z, f)
+          (copied_before a s 4 n behind there k h
+          ∙ rw e (ap (λ (i : ℕ). get_or (paste (replicate 64 0) 0 w 4) i 0) (sym z) ∙ copied_in (replicate 64 0) w 0 4 room (omega arith) k h)
+          ∙ sym (get_or-append w (zero_tailed s) 0 k (omega arith)))
+
+      here : (k : ℕ) → 4 ≤ k → k < 4 + n → at c (0 + k) ≡ at message (0 + k)
+      here k y h =
+          let z : 0 + k ≡ 4 + (k - 4) = omega arith in
+          let v : 4 + (k - 4) ≡ length w + (k - 4) = omega arith in
+          rw (z, f) (copied_in a s 4 n behind there (k - 4) (omega arith) ∙ sym (ap (at message) v ∙ message_at (k - 4)))
+
+      -- past the bytes of s the message has zeros
+      past : (k : ℕ) → k < 64 → 4 + n ≤ k → at c (0 + k) ≡ at message (0 + k)
+      past k g h =
+          let z : 0 + k ≡ 4 + n + (k - (4 + n)) = omega arith in
+          let y : 4 + n + (k - (4 + n)) ≡ 0 + 4 + (k - 4) = omega arith in
+          let v : 4 + n + (k - (4 + n)) ≡ length w + (k - 4) = omega arith in
+          rw (z, f)
+          (copied_behind a s 4 n behind there (k - (4 + n))
+          ∙ ap (at a) y
+          ∙ rw e (copied_behind (replicate 64 0) w 0 4 room (omega arith) (k - 4))
+          ∙ zeros_at 64 (0 + 4 + (k - 4))
+          ∙ sym (ap (at message) v ∙ message_at (k - 4) ∙ get_or-eq_default s 0 (omega arith)))
 
 -- ---- a message that lies together
 

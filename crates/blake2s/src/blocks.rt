@@ -5,6 +5,7 @@
 // block that lies in the lent bytes whole is mixed where it lies, the last one too. Only a block
 // that starts before them or reaches past their end is copied.
 ghost use Rattle.std.specs.Prelude.{◌≡◌, ℕ, ◌+◌, ◌-◌, ◌*◌, ◌^◌, ◌<◌, ◌≤◌, ◌++◌, length, drop};
+ghost use Rattle.std.proofs.Math.Seq.{paste};
 ghost use Rattle.blake2s.specs.Rfc7693.{F, word_at, four_at, block_at, block_count, absorbed, initial, serialised};
 ghost use Rattle.blake2s.specs.Parts.{block_of, run_at, whole_blocks, zero_tailed};
 ghost use Rattle.blake2s.specs.Words.{quad, block, state};
@@ -16,7 +17,10 @@ fn word(s: &[u8], i: usize) -> u32
     requires { i + 3 < length s.now }
     ensures { result ≡ word_at s.now i }
 {
-    u32::from_le_bytes([s[i], s[i + 1], s[i + 2], s[i + 3]])
+    u32::from(s[i])
+        + 256 * u32::from(s[i + 1])
+        + 65536 * u32::from(s[i + 2])
+        + 16777216 * u32::from(s[i + 3])
 }
 
 // Four words from i on.
@@ -76,27 +80,30 @@ fn rest(s: &[u8], i: usize) -> &[u8]
     &s[i.min(s.len())..]
 }
 
+// The block with the first n bytes of s copied over it at an offset. Never all 64 are.
+fn copied(mut block: [u8; 64], at: usize, s: &[u8], n: usize) -> [u8; 64]
+    requires { (n < 64) × (at + n ≤ 64) × (n ≤ length s.now) }
+    ensures { (result ≡ paste block at s.now n) × (length block ≡ 64) }
+{
+    block[at..at + n].copy_from_slice(&s[..n]);
+    block
+}
+
 // The 64 bytes at i, with zeros past the end of s, which is before theirs.
 fn padded(s: &[u8], i: usize) -> [u8; 64]
     requires { length s.now < i + 64 }
     ensures { block_at result 0 ≡ block_at s.now i }
 {
     let bytes = rest(s, i);
-    let n = bytes.len().min(64);
-    let mut block = [0; 64];
-    block[..n].copy_from_slice(&bytes[..n]);
-    block
+    copied([0; 64], 0, bytes, bytes.len().min(64))
 }
 
 // The first 64 bytes of a message of four bytes, those of s, and zeros.
 pub fn after_word(first: [u8; 4], s: &[u8]) -> [u8; 64]
     ensures { (block_at result 0 ≡ block_at (first ++ zero_tailed s.now) 0) × (length first ≡ 4) }
 {
-    let n = s.len().min(60);
-    let mut block = [0; 64];
-    block[..4].copy_from_slice(&first);
-    block[4..4 + n].copy_from_slice(&s[..n]);
-    block
+    let word = copied([0; 64], 0, &first, 4);
+    copied(word, 4, s, s.len().min(60))
 }
 
 // How many blocks a message of n bytes has.

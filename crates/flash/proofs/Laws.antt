@@ -39,7 +39,7 @@ pub word_erased : (b : List ℕ) → take 4 b ≡ erased_bytes 4 → starts_eras
 word_erased b e = ap starts_erased (sym (take-append-drop 4 b) ∙ ap (λ (v : List ℕ). v ++ drop 4 b) e) ∙ erased_word (drop 4 b)
 
 -- a list of four is its four elements
-four_elements : (w : List ℕ) → length w ≡ 4 → w ≡ get_or w 0 0 ∷ get_or w 1 0 ∷ get_or w 2 0 ∷ get_or w 3 0 ∷ []
+pub four_elements : (w : List ℕ) → length w ≡ 4 → w ≡ get_or w 0 0 ∷ get_or w 1 0 ∷ get_or w 2 0 ∷ get_or w 3 0 ∷ []
 four_elements [] e = absurd (omega arith)
 four_elements (a ∷ []) e = absurd (omega arith)
 four_elements (a ∷ b ∷ []) e = absurd (omega arith)

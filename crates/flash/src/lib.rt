@@ -62,7 +62,7 @@ pub fn erase_page(page: &mut [u8])
 
 // Stores one word. The caller has seen that the word there is erased, or stores zero. Nothing happens to
 // less than a word.
-#[tactic(auto, using(crate::proofs::Laws::word_whole, crate::proofs::Laws::word_cut))]
+#[tactic(auto, using(crate::proofs::Laws::word_whole, crate::proofs::Laws::word_cut, crate::proofs::Laws::four_elements))]
 pub fn store_word(at: &mut [u8], w: [u8; 4])
     ensures { at.new ≡ first_word_stored w at.old }
 {

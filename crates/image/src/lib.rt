@@ -84,6 +84,7 @@ pub fn answer_at(outcome: Outcome, v: u32, header: CodeHeader<'_>) -> Answer
 }
 
 // S1 to S23, where S1 and S22 fail as told.
+#[tactic(auto, using(header::proofs::Rows::handed_on, header::proofs::Rows::stage_fails, header::proofs::Rows::stage_passes), unfolding(crate::specs::Check::check_rows))]
 fn check_rows(magic_missing: bool, tail_wrong: bool, b: &[u8], given: Inputs) -> Outcome
     ensures { result ≡ first_failing (check_rows magic_missing tail_wrong b.now given) }
 {

@@ -1,9 +1,9 @@
 // The inspecting program: checks an image from standard input as a file, at time 0, with a policy of
 // 2 of 3 and yes from the signature chip for both headers, and writes one line.
 //
-// It takes at most 65,536 bytes, and reads on until there is one more or the input ends. The check is
-// the proved library's; what is read and written is the C library's word. A read or a write that fails
-// ends the program with an error.
+// It reads at most 65,536 bytes, on until they are full or the input ends, and then asks for one more. The
+// check is the proved library's; what is read and written is the C library's word. A read or a write that
+// fails ends the program with an error.
 #![tactic(auto)]
 
 use header::{Inputs, Refusal};
@@ -38,9 +38,11 @@ fn inspect(rt: &impl Print, bytes: &[u8]) -> io::Result<()> {
 }
 
 fn main(rt: HostRuntime) -> io::Result<()> {
-    let mut buffer = [0; MOST + 1];
-    let n = read_full(&mut rt.stdin(), &mut buffer)?;
-    if n > MOST {
+    let mut input = rt.stdin();
+    let mut buffer = [0; MOST];
+    let n = read_full(&mut input, &mut buffer)?;
+    let mut further = [0; 1];
+    if read_full(&mut input, &mut further)? > 0 {
         return println!(rt; "too large");
     }
     inspect(&rt, &buffer[..n])

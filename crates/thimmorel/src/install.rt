@@ -70,11 +70,12 @@ pub extern "C" fn thimmorel_ask(
     ensures digests_after { digests.new ≡ cond (full (session_of «record».now) (length slot.now)) (asked_digests (ask_of (session_of «record».now) slot.now)) digests.old }
 {
     let s = session_of(*record);
-    let asked = ask(s, slot);
-    *answers = asked_words(asked);
     if !full(s, slot.len()) {
+        *answers = [19, 0, 0, 19, 0, 0]; // as `ask` answers it
         return 19;
     }
+    let asked = ask(s, slot);
+    *answers = asked_words(asked);
     tell_digests(asked, digests);
     0
 }

@@ -1,5 +1,6 @@
 -- `blake2s::blocks::absorb_run` meets its contract. The invariant: the state now is that after the blocks before offset o.
-use Rattle.std.proofs.Common.{◌≡◌, ◌+◌, ◌-◌, ◌*◌, ◌/◌, refl, arith}
+use Rattle.std.proofs.Common.{◌≡◌, ◌+◌, ◌-◌, ◌*◌, ◌/◌, refl, ap, arith}
+use lib.Dec.{leb}
 use Rattle.blake2s.proofs.Laws.{absorbed_none, absorbed_more}
 use Rattle.blake2s.proofs.blocks.absorb_run.Goals as goal
 
@@ -15,7 +16,7 @@ loop-o-preserved c =
     record {
       in_range = omega (arith, c.loop-o.invariant.whole);
       whole = omega (arith, c.loop-o.invariant.whole);
-      so_far = rw next (absorbed_more _ _ _ c.args.k j c.loop-o.invariant.so_far (rw place) (rw stop at c.min.ensures) (rw stop) c.mix_at-now.ensures);
+      so_far = rw next (absorbed_more _ _ _ c.args.k j c.loop-o.invariant.so_far (rw place) (rw stop at c.min.ensures) (ap (leb c.args.n) (omega (arith, c.loop-o.invariant.whole))) c.mix_at-now.ensures);
     }
 
 pub returns : goal.returns

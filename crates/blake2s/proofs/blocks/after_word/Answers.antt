@@ -7,4 +7,4 @@ pub returns : goal.returns
 returns c =
     let w = c.args.first in
     let l : length w ≡ 4 = search rules in
-    (word_block w _ l c.min-n.ensures c.copy_from_slice.ensures.after c.copy_from_slice-2.ensures.after, l)
+    (word_block w _ l c.min.ensures c.copied-word.ensures.0 c.copied.ensures.1 c.copied.ensures.0, l)

@@ -8,7 +8,7 @@ use Rattle.sha256.proofs.blocks.serialised.Goals as goal
 pub loop-i-preserved : goal.loop-i-preserved
 loop-i-preserved c = (
   search (rules, overwrites),
-  spelt_more c.loop-i.digest _ _ c.loop-i.i _ c.loop-i.invariant.1 (omega arith) (c.copy_from_slice.ensures.after ∙ c.to_be_bytes.ensures),
+  spelt_more c.loop-i.digest _ _ c.loop-i.i _ c.loop-i.invariant.1 (omega arith) (rw (c.copy_from_slice.ensures.after, c.to_be_bytes.ensures)),
 )
 
 pub returns : goal.returns
